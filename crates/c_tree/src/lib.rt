@@ -1,0 +1,19 @@
+//! The trees of a C text, and what a program means.
+#![tactic(auto)]
+
+mod name;
+mod program;
+mod token;
+mod tree;
+mod unit;
+mod value;
+
+pub use name::Name;
+pub use program::{BlockName, Costs, Func, Global, Input, Local, Program};
+pub use token::{Kind, Token};
+pub use tree::{BinOp, Expr, Place, Stmt, Target, Ty, UnOp, Var};
+pub use unit::{
+    RawBound, RawExpr, RawFunc, RawParam, RawPlace, RawShape, RawStmt, RawTarget, RawTop, Spot,
+    Unit,
+};
+pub use value::{Slot, Store, Value, Way};
