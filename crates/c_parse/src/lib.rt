@@ -1,0 +1,11 @@
+//! Reads a program from the bytes of a C text.
+//!
+//! The form that is read today is one function `int main(void) { return K; }`, with a decimal number K that an `int`
+//! holds. `specs/Form.antt` says which texts these are, apart from the reader.
+#![tactic(auto)]
+
+mod cursor;
+mod form;
+mod read;
+
+pub use read::{FormFault, read_form};
