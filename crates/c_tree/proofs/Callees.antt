@@ -1,0 +1,39 @@
+-- The function with the number g runs over those above it.
+use Rattle.std.proofs.Common.{◌≡◌, ℕ, zero, suc, ◌+◌, ◌<◌, List, [], ◌∷◌, ◌++◌, take, length, Some, None, option_map, refl, sym, ap, ◌∙◌, arith, length-append}
+use Rattle.std.specs.Prelude.{slice_get}
+use Rattle.c_tree.specs.declared.program.Func.{Func}
+use Rattle.c_tree.specs.Statements.{Callee}
+use Rattle.c_tree.specs.Runs.{callee, callees}
+
+get_past : {X : Type 0} → (xs : List X) (n : ℕ) → slice_get xs (length xs + n) ≡ None
+get_past [] n = refl
+get_past (x ∷ xs) n = let e : length (x ∷ xs) + n ≡ suc (length xs + n) = omega arith in ap (slice_get (x ∷ xs)) e ∙ get_past xs n
+
+get_front : {X : Type 0} → (xs ys : List X) (n : ℕ) → n < length xs → slice_get (xs ++ ys) n ≡ slice_get xs n
+get_front [] ys n lt = absurd (omega (arith, lt))
+get_front (x ∷ xs) ys zero lt = refl
+get_front (x ∷ xs) ys (suc n) lt = get_front xs ys n (omega (arith, lt))
+
+get_seam : {X : Type 0} → (xs : List X) (x : X) → slice_get (xs ++ x ∷ []) (length xs + 0) ≡ Some x
+get_seam [] x = refl
+get_seam (y ∷ xs) x = let e : length (y ∷ xs) + 0 ≡ suc (length xs + 0) = omega arith in ap (slice_get ((y ∷ xs) ++ x ∷ [])) e ∙ get_seam xs x
+
+keep : (cs : List Callee) (fs : List Func) (n : ℕ) → n < length cs → slice_get (callees cs fs) n ≡ slice_get cs n
+keep cs [] n lt = refl
+keep cs (f ∷ fs) n lt =
+    let c = callee (length cs) f cs in
+    let len = length-append cs (c ∷ []) in
+    keep (cs ++ c ∷ []) fs n (omega (arith, lt, len)) ∙ get_front cs (c ∷ []) n lt
+
+pub callee_at : (cs : List Callee) (fs : List Func) (g : ℕ) → slice_get (callees cs fs) (length cs + g) ≡ option_map (λ f. callee (length cs + g) f (callees cs (take g fs))) (slice_get fs g)
+callee_at cs [] g = get_past cs g
+callee_at cs (f ∷ fs) zero =
+    let c = callee (length cs) f cs in
+    let len = length-append cs (c ∷ []) in
+    let e : length cs ≡ length cs + 0 = omega arith in
+    keep (cs ++ c ∷ []) fs (length cs + 0) (omega (arith, len)) ∙ get_seam cs c ∙ ap (λ n. Some (callee n f cs)) e
+callee_at cs (f ∷ fs) (suc g) =
+    let c = callee (length cs) f cs in
+    let len = length-append cs (c ∷ []) in
+    let e : length cs + suc g ≡ length (cs ++ c ∷ []) + g = omega (arith, len) in
+    ap (slice_get (callees (cs ++ c ∷ []) fs)) e ∙ callee_at (cs ++ c ∷ []) fs g ∙ ap (λ n. option_map (λ f. callee n f (callees (cs ++ c ∷ []) (take g fs))) (slice_get fs g)) (sym e)

@@ -1,0 +1,3 @@
+pub mod ValLayers
+pub mod ExecLayers
+pub mod Callees

@@ -1,0 +1,48 @@
+-- The blocks of a function, numbered from 0 by the place of their first token. A block is a maximal run of simple statements in one list;
+-- or one controlling expression; one initialiser or step of a `for`; one call; one `break`, `continue` or `return`. This project's own.
+use Rattle.std.specs.Prelude.{ℕ, ◌+◌, List, [], ◌∷◌, Bool, true, false}
+use Rattle.c_tree.specs.declared.tree.Stmt.{Stmt, Row_of-Stmt, end_of-Stmt, more_of-Stmt, Held-Stmt-For-1, None', Some'}
+use Rattle.c_tree.specs.declared.tree.Stmt.TheVariants.{Empty, Scalar, Array, Assign, Call, Break, Continue, Return, If', While', Do', For', Group'}
+
+-- a simple statement: an empty one, a declaration without a call, or an assignment
+abbrev pub is_simple : Stmt → Bool
+is_simple Empty = true
+is_simple (Scalar l e) = true
+is_simple (Array l es) = true
+is_simple (Assign p op e) = true
+is_simple _ = false
+
+-- how many blocks begin with a simple statement, where `run` tells that one stands before it
+abbrev pub begun : Bool → ℕ
+begun true = 0
+begun false = 1
+
+unfoldable mutual
+  -- how many blocks begin at a statement of a list, of which `run` tells whether it goes on with a run of simple ones
+  pub blocks : Stmt → Bool → ℕ
+  blocks Empty run = begun run
+  blocks (Scalar l e) run = begun run
+  blocks (Array l es) run = begun run
+  blocks (Assign p op e) run = begun run
+  blocks (Call t f es) run = 1
+  blocks Break run = 1
+  blocks Continue run = 1
+  blocks (Return e) run = 1
+  blocks (If' e a x b y) run = 1 + row_blocks x false + row_blocks y false
+  blocks (While' n e a x) run = 1 + row_blocks x false
+  blocks (Do' n a x e) run = row_blocks x false + 1
+  blocks (For' n i e j c x) run = held_blocks i + 1 + held_blocks j + row_blocks x false
+  blocks (Group' a x) run = row_blocks x false
+
+  pub row_blocks : {m : _} → Row_of-Stmt m → Bool → ℕ
+  row_blocks end_of-Stmt run = 0
+  row_blocks (more_of-Stmt s rest) run = blocks s run + row_blocks rest (is_simple s)
+
+  pub held_blocks : Held-Stmt-For-1 → ℕ
+  held_blocks None' = 0
+  held_blocks (Some' a x) = row_blocks x false
+
+-- the same of a list
+abbrev pub list_blocks : List Stmt → Bool → ℕ
+list_blocks [] run = 0
+list_blocks (s ∷ rest) run = blocks s run + list_blocks rest (is_simple s)
