@@ -100,7 +100,11 @@ fn constant_of(run: &[u8]) -> Option<u32>
         }
         value = value * 10 + u64::from(*byte - 48);
     }
-    if value <= MOST { Some(value as u32) } else { None }
+    if value <= MOST {
+        Some(value as u32)
+    } else {
+        None
+    }
 }
 
 /// The value of a constant and what stands behind it, where the text begins with one.

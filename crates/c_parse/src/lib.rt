@@ -7,5 +7,7 @@
 mod cursor;
 mod form;
 mod read;
+#[cfg(test)]
+mod tests;
 
 pub use read::{FormFault, read_form};

@@ -55,5 +55,4 @@ fn program_returning(alloc: Global, value: u32) -> Result<Program, AllocError>
 /// A text spells one program at most.
 pub fn one_program()
     ensures { (text : List ℕ) (p q : Program) → SpellsProgram text p → SpellsProgram text q → p ≡ q }
-{
-}
+{}

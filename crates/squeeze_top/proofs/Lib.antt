@@ -1,0 +1,4 @@
+mod DearLayers
+mod DearBounds
+mod Within
+mod Told

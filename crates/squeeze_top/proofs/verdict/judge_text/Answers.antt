@@ -1,0 +1,14 @@
+use Rattle.std.proofs.Common.{arith}
+use Rattle.squeeze_top.proofs.Within.{spelled_above, spelled_small}
+use Rattle.squeeze_top.proofs.verdict.judge_text.Goals as goal
+
+pub bound_of-requires : goal.bound_of-requires
+bound_of-requires c = omega (arith, spelled_small c.args.text.now c.in-Ok.program c.in-Ok.ensures.found)
+
+pub returns-in-Ok-clause-holds : goal.returns-in-Ok-clause-holds
+returns-in-Ok-clause-holds c =
+    let above = spelled_above c.args.text.now c.in-Ok.program c.in-Ok.ensures.found in
+    (c.in-Ok.program, c.in-Ok.ensures.found, record { value = c.bound_of.ensures; above = rw c.bound_of.ensures above })
+
+pub returns-in-Err-NotForm-clause-holds : goal.returns-in-Err-NotForm-clause-holds
+returns-in-Err-NotForm-clause-holds c = c.in-Err-NotForm.ensures.not_form (cc (c.in-Err-NotForm.field-0-is))

@@ -1,0 +1,4 @@
+pub mod Dear
+pub mod Words
+pub mod Verdicts
+pub mod Statuses
