@@ -1,2 +1,5 @@
 pub mod Form
 pub mod Cursor
+pub mod Names
+pub mod Scopes
+pub mod Straight

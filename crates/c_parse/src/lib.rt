@@ -5,9 +5,12 @@
 #![tactic(auto)]
 
 mod cursor;
+mod fault;
 mod form;
+mod names;
 mod read;
 #[cfg(test)]
 mod tests;
 
-pub use read::{FormFault, read_form};
+pub use fault::FormFault;
+pub use read::read_form;

@@ -4,19 +4,11 @@ ghost use Rattle.std.specs.Prelude.{◌≡◌, ℕ, ◌∷◌, [], List, IfOk, I
 ghost use Rattle.c_parse.specs.Form.{SpellsProgram, main_returning};
 ghost use Rattle.c_tree.specs.declared.program.Program.{Program};
 
+use crate::fault::FormFault;
 use crate::form::constant_in;
 use c_tree::{Expr, Func, Name, Program, Stmt, Ty};
 use sqlite_items::Items;
 use std::alloc::{AllocError, Global};
-
-/// Why no program was read.
-#[derive(Clone, Copy, Debug, PartialEq, Eq)]
-pub enum FormFault {
-    /// The text is not of the form.
-    NotForm,
-    /// Want of memory.
-    NoMemory,
-}
 
 /// The program that a text of the form spells. `NotForm` comes exactly where it spells none.
 pub fn read_form(alloc: Global, text: &[u8]) -> Result<Program, FormFault>
