@@ -1,128 +1,84 @@
--- The reader's steps over tokens, and what the form says of them.
-use Rattle.std.proofs.Common.{◌≡◌, ℕ, Bool, true, false, cond, not, ◌&&◌, List, [], ◌∷◌, ◌++◌, length, take, drop, Option, Some, None, refl, sym, ◌∙◌, ap, subst, append-nil}
-use Rattle.std.specs.Prelude.{bytes_eq, option_and_then}
-use Rattle.std.specs.List.{list_all}
-use Rattle.std.proofs.Math.Seq.{take-append_seam, drop-append_seam}
-use Rattle.std.proofs.lemmas.List.{take-append-drop}
-use Rattle.std.proofs.lemmas.Slice.Eq.{bytes_eq-Decides}
-use Rattle.c_parse.specs.Form.{is_blank, is_run_byte, begins, Next, Spells}
-use Rattle.c_parse.specs.Cursor.{after_blanks, after_here, after_token, after_tokens}
+-- What a step of reading does at a token whose symbol is known, and what a token is that a step has seen.
+use Rattle.std.proofs.Common.{◌≡◌, ◌<◌, Bool, true, false, cond, List, [], ◌∷◌, length, Ok, Err, refl, rules, arith}
+use denote.Enum.Bare.{sameb, same_true, true_same}
+use Rattle.c_parse.specs.contracts.symbol.Symbol.{the_type}
+use Rattle.c_parse.specs.declared.fault.Fault.TheVariants.{Syntax}
+use Rattle.c_parse.specs.declared.symbol.Symbol.{Symbol}
+use Rattle.c_parse.specs.Lexeme.{Lexeme}
+use Rattle.c_parse.specs.Parser.{Outcome, Parser, and_then, sees, token, expect}
 
-pub both_true : (a b : Bool) → (a && b) ≡ true → (a ≡ true) × (b ≡ true)
-both_true true b e = (refl, e)
-both_true false b e = cc
+pub sees-some : (m : Symbol) (ts : List Lexeme) → sees m ts ≡ true → 0 < length ts
+unfolding sees
+sees-some m [] h = cc
+sees-some m (t ∷ ts) h = omega arith
 
-not_both : (a b : Bool) → (a ≡ true → b ≡ false) → (a && b) ≡ false
-not_both true b h = h refl
-not_both false b h = refl
+pub ruleset seeing = (sees-some)
 
--- blanks at the front change nothing
-pub after_blanks-append : (gap text : List ℕ) → list_all is_blank gap ≡ true → after_blanks (gap ++ text) ≡ after_blanks text
-after_blanks-append [] text blank = refl
-after_blanks-append (x ∷ gap) text blank =
-    let b = both_true (is_blank x) (list_all is_blank gap) blank in
-    rw b.0 (after_blanks-append gap text b.1)
+pub sees-yes : (m : Symbol) (t : Lexeme) (ts : List Lexeme) → t.symbol ≡ m → sees m (t ∷ ts) ≡ true
+unfolding sees
+sees-yes m t ts h = true_same the_type t.symbol m h
 
-pub after_blanks-nonblank : (x : ℕ) (xs : List ℕ) → is_blank x ≡ false → after_blanks (x ∷ xs) ≡ x ∷ xs
-after_blanks-nonblank x xs e = rw e refl
+pub sees-no : (m f : Symbol) (t : Lexeme) (ts : List Lexeme) → t.symbol ≡ f → sameb the_type f m ≡ false → sees m (t ∷ ts) ≡ false
+unfolding sees
+sees-no m f t ts h differs = rw h differs
 
--- what is left out is blank
-pub record Gap (text : List ℕ) : Type 0 where
-  pub gap : List ℕ
-  pub blank : list_all is_blank gap ≡ true
-  pub split : text ≡ gap ++ after_blanks text
+pub sees-is : (m : Symbol) (t : Lexeme) (ts : List Lexeme) → sees m (t ∷ ts) ≡ true → t.symbol ≡ m
+unfolding sees
+sees-is m t ts h = same_true the_type (search rules) t.symbol m h
 
-gap_more : (x : ℕ) (xs : List ℕ) (b : Bool) → is_blank x ≡ b → Gap xs → Gap (x ∷ xs)
-gap_more x xs true e g = record { gap = x ∷ g.gap; blank = rw e g.blank; split = rw e (ap (λ (l : List ℕ). x ∷ l) g.split) }
-gap_more x xs false e g = record { gap = []; blank = refl; split = rw e refl }
+pub token-yes : {A : Type 0} (m : Symbol) (view : Lexeme → A) (t : Lexeme) (ts : List Lexeme) → t.symbol ≡ m → token m view (t ∷ ts) ≡ Ok (view t, ts)
+unfolding token
+token-yes m view t ts h = rw (sees-yes m t ts h) refl
 
-pub gap_of : (text : List ℕ) → Gap text
-gap_of [] = record { gap = []; blank = refl; split = refl }
-gap_of (x ∷ xs) = gap_more x xs (is_blank x) refl (gap_of xs)
+pub expect-yes : (m : Symbol) (t : Lexeme) (ts : List Lexeme) → t.symbol ≡ m → expect m (t ∷ ts) ≡ Ok (t.at, ts)
+expect-yes m t ts h = token-yes m (λ t. t.at) t ts h
 
--- all is blank exactly where nothing is left
-pub all_blank : (text : List ℕ) → after_blanks text ≡ [] → list_all is_blank text ≡ true
-all_blank text e = let g = gap_of text in let same : text ≡ g.gap = g.split ∙ ap (λ (l : List ℕ). g.gap ++ l) e ∙ append-nil g.gap in rw same g.blank
+pub token-no : {A : Type 0} (m : Symbol) (view : Lexeme → A) (ts : List Lexeme) → sees m ts ≡ false → token m view ts ≡ Err (Syntax (length ts))
+unfolding token
+token-no m view ts h = rw h refl
 
-pub none_left : (text : List ℕ) → list_all is_blank text ≡ true → after_blanks text ≡ []
-none_left text blank =
-    let h = after_blanks-append text [] blank in rw append-nil at h
-
--- a token that stands here, and is the longest that does
-pub after_here-append : (token rest : List ℕ) → (begins is_run_byte token ≡ true → begins is_run_byte rest ≡ false) → after_here token (token ++ rest) ≡ Some rest
-after_here-append token rest longest =
-    rw (take-append_seam token rest, drop-append_seam token rest, (bytes_eq-Decides token token).1 refl, not_both _ _ longest) refl
-
-pub record IsHere (token text rest : List ℕ) : Type 0 where
-  pub split : text ≡ token ++ rest
-  pub longest : begins is_run_byte token ≡ true → begins is_run_byte rest ≡ false
-
-found : (token text rest : List ℕ) → bytes_eq (take (length token) text) token ≡ true → (begins is_run_byte token ≡ true → begins is_run_byte (drop (length token) text) ≡ false)
-    → Some (drop (length token) text) ≡ Some rest → IsHere token text rest
-found token text rest same longest e =
-    let at : drop (length token) text ≡ rest = cc in
-    let front : take (length token) text ≡ token = (bytes_eq-Decides (take (length token) text) token).0 same in
-    record { split = sym (take-append-drop (length token) text) ∙ ap (λ (l : List ℕ). l ++ drop (length token) text) front ∙ ap (λ (l : List ℕ). token ++ l) at; longest = subst (λ (l : List ℕ). begins is_run_byte token ≡ true → begins is_run_byte l ≡ false) at longest }
-
-pub is_here : (token text rest : List ℕ) → after_here token text ≡ Some rest → IsHere token text rest
-is_here token text rest e =
-    by_tests (bytes_eq (take (length token) text) token) (begins is_run_byte token) (begins is_run_byte (drop (length token) text)) refl refl refl e
+-- a list of tokens, by whether the symbol is seen
+pub split_at : (m : Symbol) (Q : List Lexeme → Type 0) (ts : List Lexeme) → ((t : Lexeme) (u : List Lexeme) → t.symbol ≡ m → Q (t ∷ u)) → (sees m ts ≡ false → Q ts) → Q ts
+split_at m Q ts seen unseen = by_test (sees m ts) refl
   where
-    by_tests : (same a b : Bool) → bytes_eq (take (length token) text) token ≡ same → begins is_run_byte token ≡ a → begins is_run_byte (drop (length token) text) ≡ b
-        → cond (same && not (a && b)) (Some (drop (length token) text)) None ≡ Some rest → IsHere token text rest
-    by_tests false a b s p q e = cc
-    by_tests true true true s p q e = cc
-    by_tests true true false s p q e = found token text rest s (λ _. q) e
-    by_tests true false b s p q e = found token text rest s (λ h. cc) e
+    at : (ts : List Lexeme) → ((t : Lexeme) (u : List Lexeme) → t.symbol ≡ m → Q (t ∷ u)) → sees m ts ≡ true → Q ts
+    at [] go h = absurd (omega (arith, sees-some m [] h))
+    at (t ∷ u) go h = go t u (sees-is m t u h)
 
--- A token that begins with no blank.
-pub record IsToken (token : List ℕ) : Type 0 where
-  pub first : ℕ
-  pub others : List ℕ
-  pub is : token ≡ first ∷ others
-  pub visible : is_blank first ≡ false
+    by_test : (b : Bool) → sees m ts ≡ b → Q ts
+    by_test true h = at ts seen h
+    by_test false h = unseen h
 
-pub after_blanks-token : (token rest : List ℕ) → IsToken token → after_blanks (token ++ rest) ≡ token ++ rest
-after_blanks-token token rest t = rw t.is (after_blanks-nonblank t.first (t.others ++ rest) t.visible)
+-- ---- reasoning about what was read, without looking into the steps
 
-pub after_blanks-Next : (token text rest : List ℕ) → IsToken token → Next token text rest → after_blanks text ≡ token ++ rest
-after_blanks-Next token text rest t next = rw next.split (after_blanks-append next.gap (token ++ rest) next.blank ∙ after_blanks-token token rest t)
+abbrev pub Sound : {A : Type 0} → (A → List Lexeme → Type 0) → Outcome A → Type 0
+Sound P (Ok p) = P p.0 p.1
+Sound P (Err x) = Unit {0}
 
-pub after_token-Next : (token text rest : List ℕ) → IsToken token → Next token text rest → after_token token text ≡ Some rest
-after_token-Next token text rest t next =
-    rw (after_blanks-Next token text rest t next) (after_here-append token rest next.longest)
+pub bind : {A B : Type 0} (P : A → List Lexeme → Type 0) (Q : B → List Lexeme → Type 0) (r : Outcome A) (f : A → Parser B)
+    → Sound P r → ((a : A) (u : List Lexeme) → P a u → Sound Q (f a u)) → Sound Q (and_then r f)
+bind P Q (Ok p) f h go = go p.0 p.1 h
+bind P Q (Err x) f h go = tt
 
-pub Next-here : (token text rest : List ℕ) → IsHere token (after_blanks text) rest → Next token text rest
-Next-here token text rest here =
-    let g = gap_of text in
-    record { gap = g.gap; blank = g.blank; split = g.split ∙ ap (λ (l : List ℕ). g.gap ++ l) here.split; longest = here.longest }
+pub weaken : {A : Type 0} (P Q : A → List Lexeme → Type 0) (r : Outcome A) → Sound P r → ((a : A) (u : List Lexeme) → P a u → Q a u) → Sound Q r
+weaken P Q (Ok p) h go = go p.0 p.1 h
+weaken P Q (Err x) h go = tt
 
-pub Next-after_token : (token text rest : List ℕ) → after_token token text ≡ Some rest → Next token text rest
-Next-after_token token text rest e = Next-here token text rest (is_here token (after_blanks text) rest e)
+-- a token that is expected after what D tells of
+pub step : {A B : Type 0} (m : Symbol) (view : Lexeme → A) (f : A → Parser B) (D : List Lexeme → Type 0) (Q : List Lexeme → B → List Lexeme → Type 0) (ts : List Lexeme) → D ts
+    → ((t : Lexeme) (u : List Lexeme) → D (t ∷ u) → t.symbol ≡ m → Sound (Q (t ∷ u)) (f (view t) u)) → Sound (Q ts) (and_then (token m view ts) f)
+step {A} {B} m view f D Q ts d go = split_at m (λ w. D w → Sound (Q w) (and_then (token m view w) f)) ts
+    (λ t u is e. rw (token-yes m view t u is) (go t u e is))
+    (λ none e. rw (token-no m view ts none) tt)
+    d
 
--- each of them begins with no blank
-abbrev pub AreTokens : List (List ℕ) → Type 0
-AreTokens [] = Unit {0}
-AreTokens (token ∷ tokens) = IsToken token × AreTokens tokens
+-- one that nothing follows
+pub taken : {A : Type 0} (m : Symbol) (view : Lexeme → A) (Q : List Lexeme → A → List Lexeme → Type 0) (ts : List Lexeme)
+    → ((t : Lexeme) (u : List Lexeme) → t.symbol ≡ m → Q (t ∷ u) (view t) u) → Sound (Q ts) (token m view ts)
+taken m view Q ts go = split_at m (λ w. Sound (Q w) (token m view w)) ts
+    (λ t u is. rw (token-yes m view t u is) (go t u is))
+    (λ none. rw (token-no m view ts none) tt)
 
--- the rest behind some tokens that spells the others
-pub record Behind (tokens others : List (List ℕ)) (text : List ℕ) : Type 0 where
-  pub rest : List ℕ
-  pub found : after_tokens tokens text ≡ Some rest
-  pub spelled : Spells others rest
-
-pub Behind-Spells : (tokens others : List (List ℕ)) (text : List ℕ) → AreTokens tokens → Spells (tokens ++ others) text → Behind tokens others text
-Behind-Spells [] others text all spells = record { rest = text; found = refl; spelled = spells }
-Behind-Spells (token ∷ tokens) others text all spells =
-    let behind = Behind-Spells tokens others spells.0 all.1 spells.2 in
-    record { rest = behind.rest; found = rw (after_token-Next token text spells.0 all.0 spells.1) behind.found; spelled = behind.spelled }
-
-spells_more : (token : List ℕ) (tokens others : List (List ℕ)) (text rest : List ℕ) (first : Option (List ℕ)) → after_token token text ≡ first → option_and_then (after_tokens tokens) first ≡ Some rest
-    → ((mid : List ℕ) → after_tokens tokens mid ≡ Some rest → Spells (tokens ++ others) mid) → Spells (token ∷ (tokens ++ others)) text
-spells_more token tokens others text rest None at e go_on = cc
-spells_more token tokens others text rest (Some mid) at e go_on = (mid, Next-after_token token text mid at, go_on mid e)
-
-pub Spells-after_tokens : (tokens others : List (List ℕ)) (text rest : List ℕ) → after_tokens tokens text ≡ Some rest → Spells others rest → Spells (tokens ++ others) text
-Spells-after_tokens [] others text rest e spells = let same : rest ≡ text = cc in subst (λ (l : List ℕ). Spells others l) same spells
-Spells-after_tokens (token ∷ tokens) others text rest e spells =
-    spells_more token tokens others text rest (after_token token text) refl e (λ mid h. Spells-after_tokens tokens others mid rest h spells)
+pub choose : {X : Type 0} (Q : X → Type 0) (b : Bool) (x y : X) → (b ≡ true → Q x) → (b ≡ false → Q y) → Q (cond b x y)
+choose Q true x y f g = f refl
+choose Q false x y f g = g refl

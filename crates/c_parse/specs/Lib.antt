@@ -1,5 +1,14 @@
-pub mod Form
-pub mod Cursor
+pub mod Lexeme
+pub mod Expressions
+pub mod Statements
+pub mod Functions
+pub mod Spelling
+pub mod Height
+pub mod Parser
+pub mod ReadExpr
+pub mod ReadStmt
+pub mod ReadUnit
+pub mod Reads
 pub mod Names
 pub mod Scopes
 pub mod Straight

@@ -1,7 +1,7 @@
 -- What the names of the code are, and what its answers say.
 use Rattle.std.specs.Prelude.{◌≡◌, ℕ, List, map, Option, Some, None, Result, Ok, Err}
-use Rattle.c_parse.specs.declared.fault.FormFault.{FormFault}
-use Rattle.c_parse.specs.declared.fault.FormFault.TheVariants.{NotForm, NoMemory}
+use Rattle.c_parse.specs.declared.form_fault.FormFault.{FormFault}
+use Rattle.c_parse.specs.declared.form_fault.FormFault.TheVariants.{NotForm, NoMemory}
 use Rattle.c_parse.specs.declared.names.Visible.{Visible}
 use Rattle.c_parse.specs.declared.names.Scope.{Scope}
 use Rattle.c_parse.specs.Names.{Names}

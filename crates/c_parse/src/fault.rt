@@ -1,34 +1,45 @@
-//! Why no program was read.
+//! Why nothing was read.
 
-use std::alloc::{AllocError, AllocFailed};
+use std::alloc::AllocError;
 
-/// Why no program was read.
+/// Why the reader stopped. The number is the count of tokens from the one where it stopped on.
 #[derive(Clone, Copy, Debug, PartialEq, Eq)]
-pub enum FormFault {
-    /// The text is not of the form.
-    NotForm,
-    /// Want of memory.
+pub enum Fault {
     NoMemory,
+    Syntax(usize),
+    Depth(usize),
 }
 
-impl From<AllocError> for FormFault {
+impl From<AllocError> for Fault {
     ghost use Rattle.std.specs.Prelude.{◌≡◌};
-    ghost use Rattle.c_parse.specs.declared.fault.FormFault.TheVariants.{NoMemory};
+    ghost use Rattle.c_parse.specs.declared.fault.Fault.TheVariants.{NoMemory};
 
     ghost from_gives = { λ _ e. e ≡ NoMemory };
 
-    fn from(_: AllocError) -> FormFault {
-        FormFault::NoMemory
+    fn from(_: AllocError) -> Fault {
+        Fault::NoMemory
     }
 }
 
-impl<T: Drop> From<AllocFailed<T>> for FormFault {
+/// Why a text has no tree.
+#[derive(Clone, Copy, Debug, PartialEq, Eq)]
+pub enum ParseFault {
+    /// No tokens of the grammar's texts go on as these do at the place `at`, or none of them have a tree that is low
+    /// enough.
+    Syntax { at: u32 },
+    /// The tree would be too high at the place `at`.
+    Depth { at: u32 },
+    /// Memory was wanting.
+    NoMemory,
+}
+
+impl From<AllocError> for ParseFault {
     ghost use Rattle.std.specs.Prelude.{◌≡◌};
-    ghost use Rattle.c_parse.specs.declared.fault.FormFault.TheVariants.{NoMemory};
+    ghost use Rattle.c_parse.specs.declared.fault.ParseFault.TheVariants.{NoMemory};
 
     ghost from_gives = { λ _ e. e ≡ NoMemory };
 
-    fn from(_: AllocFailed<T>) -> FormFault {
-        FormFault::NoMemory
+    fn from(_: AllocError) -> ParseFault {
+        ParseFault::NoMemory
     }
 }

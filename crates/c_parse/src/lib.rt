@@ -1,16 +1,20 @@
-//! Reads a program from the bytes of a C text.
+//! From the text of a C program to its tree.
 //!
-//! The form that is read today is one function `int main(void) { return K; }`, with a decimal number K that an `int`
-//! holds. `specs/Form.antt` says which texts these are, apart from the reader.
+//! `parse` reads the tree that the tokens of a text spell; `specs/Spelling.antt` is the grammar, apart from the reader. Of
+//! the C subset it has today one function, with its declarations, assignments, `if`, groups and `return`.
 #![tactic(auto)]
 
-mod cursor;
+mod expr;
 mod fault;
-mod form;
+mod form_fault;
+mod measured;
 mod names;
-mod read;
-#[cfg(test)]
-mod tests;
+mod parsing;
+mod reader;
+mod stmt;
+mod symbol;
+mod unit;
 
-pub use fault::FormFault;
-pub use read::read_form;
+pub use fault::ParseFault;
+pub use form_fault::FormFault;
+pub use parsing::{one_tree, parse};

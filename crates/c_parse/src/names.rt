@@ -5,7 +5,7 @@ ghost use Rattle.c_parse.specs.Names.{Names, local_of, is_declared, declare, exp
 ghost use Rattle.c_tree.specs.declared.program.Func.{Func};
 ghost use Rattle.c_parse.specs.Scopes.{seen, names_of, Gives, GivesNames};
 
-use crate::fault::FormFault;
+use crate::form_fault::FormFault;
 use c_tree::{
     BinOp, Expr, Func, Local, Name, Place, Program, RawExpr, RawFunc, RawParam, RawPlace, RawShape,
     RawStmt, RawTop, Spot, Stmt, Ty, Unit, Var,

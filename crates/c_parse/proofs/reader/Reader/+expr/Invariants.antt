@@ -1,0 +1,25 @@
+use Rattle.std.proofs.Common.{◌≡◌, ◌-◌, ◌≤◌, ◌+◌, ◌*◌}
+use Rattle.c_parse.specs.ReadExpr as spec
+use Rattle.c_parse.proofs.reader.Reader.+expr.Given as goal
+
+abbrev pub decreases-climb : goal.decreases-climb
+decreases-climb l = 4 * l.room - 1
+
+abbrev pub decreases-expr : goal.decreases-expr
+decreases-expr l = 4 * l.room
+
+abbrev pub decreases-operation : goal.decreases-operation
+decreases-operation l = 4 * l.room + 1
+
+abbrev pub decreases-paren : goal.decreases-paren
+decreases-paren l = 4 * l.room + 1
+
+abbrev pub decreases-operand : goal.decreases-operand
+decreases-operand l = 4 * l.room + 2
+
+abbrev pub invariant-climb-loop-turn : goal.invariant-climb-loop-turn
+invariant-climb-loop-turn l = record {
+  same : spec.climb (spec.expr (l.room - 1)) l.room (l.room - l._turn) l.least l.left.expr l.self
+      ≡ spec.climb (spec.expr (l.room - 1)) l.room l.room l.least l.fn.first.expr l.fn.self;
+  low : l.left.height ≤ l.room;
+}

@@ -1,0 +1,8 @@
+use Rattle.std.proofs.Common.{ap, sym}
+use Rattle.c_parse.specs.Lexeme.{Lexeme, lexeme}
+use Rattle.c_parse.proofs.Tokens.{head-lexemes}
+use Rattle.c_parse.proofs.reader.Reader.place.Goals as goal
+
+pub returns : goal.returns
+unfolding lexeme
+returns c = sym (ap (λ (t : Lexeme). t.at) (head-lexemes _ _ _ _ c.requires c.self.view_is))

@@ -1,0 +1,80 @@
+//! The tree of a text.
+
+ghost use Rattle.std.specs.Prelude.{◌≡◌, ◌<◌, ◌≤◌, ◌^◌, ℕ, List, length, All, IfOk, IfErr};
+ghost use Rattle.c_tree.specs.declared.token.Token.{Token};
+ghost use Rattle.c_tree.specs.declared.unit.Unit.{Unit as Tree};
+ghost use Rattle.c_parse.specs.Height.{unit_height};
+ghost use Rattle.c_parse.specs.Lexeme.{IsWithin};
+ghost use Rattle.c_parse.specs.Spelling.{Gives, IsPlace, IsRefusal, Spells, tree_of};
+
+use crate::fault::{Fault, ParseFault};
+use crate::reader::Reader;
+use c_tree::{RawFunc, RawTop, Token, Unit};
+use sqlite_items::Items;
+use std::alloc::{AllocError, Global};
+
+/// The greatest height of a tree that is read.
+const MAX_HEIGHT: usize = 128;
+
+/// The tree of a text that is this function.
+fn tree(alloc: Global, text: &[u8], function: RawFunc) -> Result<Unit, AllocError>
+    requires { length text.now < 2 ^ 32 }
+    ensures { IfOk result (λ unit. unit ≡ tree_of text.now function) }
+{
+    let mut tops = Items::new(alloc);
+    tops.push(RawTop::Func(function))?;
+    Ok(Unit {
+        tops,
+        end: text.len() as u32,
+    })
+}
+
+/// The place of the token from which on so many are left, or the end of the text.
+fn place(text: &[u8], tokens: &[Token], left: usize) -> u32
+    requires { length text.now < 2 ^ 32 }
+    ensures { IsPlace text.now tokens.now result }
+{
+    match tokens.get(tokens.len().saturating_sub(left)) {
+        None => text.len() as u32,
+        Some(token) => token.from,
+    }
+}
+
+/// What is answered to the fault.
+fn refusal(text: &[u8], tokens: &[Token], fault: Fault) -> ParseFault
+    requires { length text.now < 2 ^ 32 }
+    ensures place { IsRefusal text.now tokens.now result }
+    ensures memory { fault ≡ Fault.NoMemory → result ≡ ParseFault.NoMemory }
+{
+    match fault {
+        Fault::NoMemory => ParseFault::NoMemory,
+        Fault::Syntax(left) | Fault::Depth(left) => ParseFault::Syntax {
+            at: place(text, tokens, left),
+        },
+    }
+}
+
+/// The tree that the tokens of the text spell (C11 6.5 to 6.9), if its height is at most 128. Every token lies within
+/// the text. A refusal other than want of memory is `Syntax` today, at the furthest token that was looked at, or at the
+/// end of the text.
+pub fn parse(alloc: Global, text: &[u8], tokens: &[Token]) -> Result<Unit, ParseFault>
+    requires short { length text.now < 2 ^ 32 }
+    requires within { All (IsWithin text.now) tokens.now }
+    // What is read is spelled, and low enough.
+    ensures spelled { IfOk result (λ unit. Spells text.now tokens.now unit) }
+    ensures low { IfOk result (λ unit. unit_height unit ≤ 128) }
+    // What is spelled and low enough is read, unless memory is wanting.
+    ensures read { (unit : Tree) → Spells text.now tokens.now unit → unit_height unit ≤ 128 → Gives unit result }
+    ensures refused { IfErr result (IsRefusal text.now tokens.now) }
+{
+    let mut reader = Reader::new(alloc, text, tokens);
+    match reader.whole(MAX_HEIGHT) {
+        Ok(function) => Ok(tree(alloc, text, function)?),
+        Err(fault) => Err(refusal(text, tokens, fault)),
+    }
+}
+
+/// The law that the tokens of a text spell at most one tree, whatever its height.
+pub fn one_tree()
+    ensures { (text : List ℕ) (tokens : List Token) (a b : Tree) → Spells text tokens a → Spells text tokens b → a ≡ b }
+{}
