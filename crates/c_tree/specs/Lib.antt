@@ -1,0 +1,4 @@
+pub mod Characters
+pub mod Lexemes
+pub mod Lexing
+pub mod Places
