@@ -1,5 +1,6 @@
 -- Classes of bytes (C11 5.2.1).
-use Rattle.std.specs.Prelude.{ℕ, ◌==◌, nat_le, Bool, false, ◌||◌, ◌&&◌, List, [], ◌∷◌}
+use Rattle.std.specs.Prelude.{ℕ, ◌==◌, nat_eq, nat_le, Bool, false, ◌||◌, ◌&&◌, List, [], ◌∷◌}
+use Rattle.std.specs.List.{starts_with}
 use Rattle.std.specs.Char.{is_ascii_digit, is_ascii_alphabetic}
 use Rattle.std.specs.Str.{byte}
 
@@ -7,6 +8,10 @@ use Rattle.std.specs.Str.{byte}
 abbrev pub begins : (ℕ → Bool) → List ℕ → Bool
 begins p [] = false
 begins p (c ∷ cs) = p c
+
+-- these bytes stand first
+abbrev pub begins_with : List ℕ → List ℕ → Bool
+begins_with here front = starts_with nat_eq here front
 
 -- space, or one of tab, line feed, vertical tab, form feed and carriage return (6.4 paragraph 3)
 unfoldable pub is_blank : ℕ → Bool

@@ -6,10 +6,10 @@ use Rattle.std.specs.Str.{byte}
 use Rattle.std.specs.Str.Parse.{digits_value}
 use Rattle.c_tree.specs.declared.token.Kind.{Kind}
 use Rattle.c_tree.specs.declared.token.Kind.TheVariants.{Word, Name, Number, Mark}
-use Rattle.c_tree.specs.Characters.{is_digit, is_nondigit, is_name_byte, is_exponent, is_sign}
+use Rattle.c_tree.specs.Characters.{begins_with, is_digit, is_nondigit, is_name_byte, is_exponent, is_sign}
 
 abbrev pub is_among : List (List ℕ) → List ℕ → Bool
-is_among table bytes = list_any (bytes_eq bytes) table
+is_among table bytes = list_any (λ entry. bytes_eq entry bytes) table
 
 -- the keywords (C11 6.4.1)
 unfoldable pub keywords : List (List ℕ)
@@ -66,11 +66,11 @@ without_suffix run = if is_suffixed run then take (length run - 1) run else run
 
 -- `0x` or `0X` stands first
 unfoldable pub is_hexadecimal : List ℕ → Bool
-is_hexadecimal bytes = bytes_eq (take 2 bytes) (codes "0x") || bytes_eq (take 2 bytes) (codes "0X")
+is_hexadecimal bytes = begins_with bytes (codes "0x") || begins_with bytes (codes "0X")
 
 -- a `0` that stands first alone is octal
 unfoldable pub base_of : List ℕ → ℕ
-base_of bytes = if is_hexadecimal bytes then 16 else if bytes_eq (take 1 bytes) (codes "0") then 8 else 10
+base_of bytes = if is_hexadecimal bytes then 16 else if begins_with bytes (codes "0") then 8 else 10
 
 unfoldable pub digits_of : List ℕ → List ℕ
 digits_of bytes = if is_hexadecimal bytes then drop 2 bytes else bytes

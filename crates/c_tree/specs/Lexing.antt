@@ -5,7 +5,7 @@ use Rattle.std.specs.Str.Parse.{digits_value}
 use Rattle.c_tree.specs.declared.token.Kind.{Kind}
 use Rattle.c_tree.specs.declared.token.Kind.TheVariants.{Bound}
 use Rattle.c_tree.specs.declared.token.Token.{Token}
-use Rattle.c_tree.specs.Characters.{begins, is_blank, is_space_or_tab, is_line_feed, is_carriage_return, is_digit, is_name_byte}
+use Rattle.c_tree.specs.Characters.{begins, begins_with, is_blank, is_space_or_tab, is_line_feed, is_carriage_return, is_digit, is_name_byte}
 use Rattle.c_tree.specs.Lexemes.{could_be_token, kind_of}
 
 -- ---- tokens
@@ -19,14 +19,14 @@ pub record IsLongest (here : List ℕ) (n : ℕ) : Type 0 where
 -- ---- comments (6.4.9)
 
 unfoldable pub opens_block_comment : List ℕ → Bool
-opens_block_comment here = bytes_eq (take 2 here) (codes "/*")
+opens_block_comment here = begins_with here (codes "/*")
 
 unfoldable pub opens_line_comment : List ℕ → Bool
-opens_line_comment here = bytes_eq (take 2 here) (codes "//")
+opens_line_comment here = begins_with here (codes "//")
 
 -- the bytes have `*/` at this place
 unfoldable pub closes_at : List ℕ → ℕ → Bool
-closes_at bytes k = bytes_eq (take 2 (drop k bytes)) (codes "*/")
+closes_at bytes k = begins_with (drop k bytes) (codes "*/")
 
 -- `/*`, and all up to and with the first `*/` behind it
 pub record IsBlockComment (here : List ℕ) (n : ℕ) : Type 0 where
@@ -49,7 +49,7 @@ pub record IsLineComment (here : List ℕ) (n : ℕ) : Type 0 where
 
 -- a `#` with only spaces and tabs before it on its line
 unfoldable pub opens_directive : List ℕ → List ℕ → Bool
-opens_directive before here = bytes_eq (take 1 here) (codes "#") && list_all is_space_or_tab (after_last is_line_feed before)
+opens_directive before here = begins_with here (codes "#") && list_all is_space_or_tab (after_last is_line_feed before)
 
 -- what stands behind the `#` on its line
 unfoldable pub directive_of : List ℕ → List ℕ

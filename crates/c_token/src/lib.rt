@@ -1,0 +1,7 @@
+//! The tokens of a C text.
+#![tactic(auto)]
+
+mod character;
+
+mod table;
+
