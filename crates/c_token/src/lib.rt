@@ -2,6 +2,6 @@
 #![tactic(auto)]
 
 mod character;
-
+mod constant;
+mod lexeme;
 mod table;
-
