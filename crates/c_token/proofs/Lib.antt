@@ -1,3 +1,4 @@
 pub mod Fronts
+pub mod LongestMatch
 pub mod MarkTable
 pub mod Numerals

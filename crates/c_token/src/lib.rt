@@ -2,6 +2,7 @@
 #![tactic(auto)]
 
 mod character;
+mod comment;
 mod constant;
 mod lexeme;
 mod table;
