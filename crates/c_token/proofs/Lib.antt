@@ -1,4 +1,6 @@
+pub mod Comments
 pub mod Fronts
+pub mod Lines
 pub mod LongestMatch
 pub mod MarkTable
 pub mod Numerals

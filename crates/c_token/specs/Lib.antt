@@ -1,3 +1,4 @@
+pub mod Directives
 pub mod Faults
 pub mod Lengths
 pub mod Marks

@@ -4,5 +4,6 @@
 mod character;
 mod comment;
 mod constant;
+mod directive;
 mod lexeme;
 mod table;
