@@ -4,3 +4,4 @@ pub mod Lines
 pub mod LongestMatch
 pub mod MarkTable
 pub mod Numerals
+pub mod Operands

@@ -18,6 +18,13 @@ pub(crate) fn is_space_or_tab(byte: u8) -> bool
     matches!(byte, b' ' | b'\t')
 }
 
+#[tactic(auto, unfolding(c_tree::specs::Characters::is_carriage_return))]
+pub(crate) fn is_carriage_return(byte: u8) -> bool
+    ensures { result ≡ class.is_carriage_return byte }
+{
+    byte == b'\r'
+}
+
 #[tactic(auto, unfolding(c_tree::specs::Characters::is_digit))]
 pub(crate) fn is_digit(byte: u8) -> bool
     ensures { result ≡ class.is_digit byte }

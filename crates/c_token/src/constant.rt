@@ -60,42 +60,39 @@ fn digits_of(bytes: &[u8]) -> &[u8]
     }
 }
 
-/// The value of a numeral that an `unsigned` holds.
+/// The value of a numeral, if 64 bits hold it.
 #[tactic(auto, unfolding(c_tree::specs::Lexemes::is_numeral))]
-fn value_of(base: u32, digits: &[u8]) -> Option<u32>
+pub(crate) fn value_of(base: u32, digits: &[u8]) -> Option<u64>
     requires low { 8 ≤ base }
     requires high { base ≤ 16 }
     ensures { result
-        ≡ (if lexemes.is_numeral base digits.now && nat_lt (digits_value base digits.now) (2 ^ 32) then Some (digits_value base digits.now) else None) }
+        ≡ (if lexemes.is_numeral base digits.now && nat_lt (digits_value base digits.now) (2 ^ 64) then Some (digits_value base digits.now) else None) }
 {
     if digits.is_empty() {
         return None;
     }
-    let mut value: u32 = 0;
+    let mut value: u64 = 0;
     for byte in digits {
         let digit = char::from(*byte).to_digit(base)?;
-        let next = u64::from(value) * u64::from(base) + u64::from(digit);
-        if next > 0xffff_ffff {
-            return None;
-        }
-        value = next as u32;
+        let scaled = value.checked_mul(u64::from(base))?;
+        value = scaled.checked_add(u64::from(digit))?;
     }
     Some(value)
 }
 
 #[tactic(auto, unfolding(c_tree::specs::Lexemes::typed))]
-fn typed(suffixed: bool, base: u32, value: u32) -> Option<Kind>
+fn typed(suffixed: bool, base: u32, value: u64) -> Option<Kind>
     ensures { result ≡ lexemes.typed suffixed base value }
 {
-    if !suffixed && value <= 0x7fff_ffff {
+    if !suffixed && value < 1 << 31 {
         Some(Kind::Number {
             unsigned: false,
-            value,
+            value: value as u32,
         })
-    } else if suffixed || base != 10 {
+    } else if (suffixed || base != 10) && value < 1 << 32 {
         Some(Kind::Number {
             unsigned: true,
-            value,
+            value: value as u32,
         })
     } else {
         None

@@ -1,11 +1,14 @@
 //! Lines of `#`.
 
-ghost use Rattle.std.specs.Prelude.{◌≡◌};
-ghost use Rattle.std.specs.List.{after_last, list_all};
+ghost use Rattle.std.specs.Prelude.{◌≡◌, ◌≤◌, length, count_by, ◌||◌};
+ghost use Rattle.std.specs.List.{after_last, list_all, prefix_len};
 ghost use Rattle.c_tree.specs.Characters as class;
 ghost use Rattle.c_tree.specs.Lexing as lexing;
+ghost use Rattle.c_token.specs.Directives.{IsOperand, IsDirective};
 
-use crate::character::{is_digit, is_name_byte, is_space_or_tab};
+use crate::character::{is_carriage_return, is_digit, is_space_or_tab};
+use crate::constant::value_of;
+use crate::lexeme::name_length;
 use memchr::memrchr;
 
 /// What a line of `#` says.
@@ -45,4 +48,103 @@ fn is_blank_line(line: &[u8]) -> bool
     ensures { result ≡ list_all class.is_space_or_tab line.now }
 {
     line.iter().all(|byte| is_space_or_tab(*byte))
+}
+
+/// How many spaces and tabs stand first.
+fn spaces_length(bytes: &[u8]) -> usize
+    ensures value { result ≡ prefix_len class.is_space_or_tab bytes.now }
+    ensures within { result ≤ length bytes.now }
+{
+    bytes.iter().take_while(|byte| is_space_or_tab(**byte)).count()
+}
+
+/// How many digits stand first.
+fn digits_length(bytes: &[u8]) -> usize
+    ensures value { result ≡ prefix_len class.is_digit bytes.now }
+    ensures within { result ≤ length bytes.now }
+{
+    bytes.iter().take_while(|byte| is_digit(**byte)).count()
+}
+
+#[tactic(auto, unfolding(c_tree::specs::Lexing::after_spaces))]
+fn after_spaces(bytes: &[u8]) -> &[u8]
+    ensures { result.now ≡ lexing.after_spaces bytes.now }
+{
+    &bytes[spaces_length(bytes)..]
+}
+
+/// The word behind spaces and tabs, and what stands behind it.
+#[tactic(auto, unfolding(c_tree::specs::Lexing::word_of, c_tree::specs::Lexing::after_word))]
+fn split_word(bytes: &[u8]) -> (&[u8], &[u8])
+    ensures word { result.0.now ≡ lexing.word_of bytes.now }
+    ensures rest { result.1.now ≡ lexing.after_word bytes.now }
+{
+    let bytes = after_spaces(bytes);
+    bytes.split_at(name_length(bytes))
+}
+
+#[tactic(auto, unfolding(c_tree::specs::Lexing::is_marker))]
+fn is_marker(bytes: &[u8]) -> bool
+    ensures { result ≡ lexing.is_marker bytes.now }
+{
+    match bytes {
+        [] => true,
+        [first, ..] => is_digit(*first),
+    }
+}
+
+fn carriage_returns(bytes: &[u8]) -> usize
+    ensures { result ≡ count_by class.is_carriage_return bytes.now }
+{
+    bytes.iter().filter(|byte| is_carriage_return(**byte)).count()
+}
+
+fn is_spacing(bytes: &[u8]) -> bool
+    ensures { result ≡ list_all (λ c. class.is_space_or_tab c || class.is_carriage_return c) bytes.now }
+{
+    bytes.iter().all(|byte| is_space_or_tab(*byte) || is_carriage_return(*byte))
+}
+
+/// Whether only spaces, tabs and at most one carriage return stand here.
+#[tactic(auto, unfolding(c_tree::specs::Lexing::is_line_end))]
+fn is_line_end(rest: &[u8]) -> bool
+    ensures { result ≡ lexing.is_line_end rest.now }
+{
+    is_spacing(rest) && carriage_returns(rest) <= 1
+}
+
+/// The number of a `loopbound` pragma, and how many bytes stand behind its digits.
+fn bound_of(operand: &[u8]) -> Option<(u64, usize)>
+    ensures { IsOperand operand.now result }
+{
+    let (digits, rest) = operand.split_at(digits_length(operand));
+    if digits.len() > 10 || !is_line_end(rest) {
+        return None;
+    }
+    let value = value_of(10, digits)?;
+    Some((value, rest.len()))
+}
+
+/// What stands behind a `#` on its line.
+pub(crate) fn directive(line: &[u8]) -> Directive
+    ensures { IsDirective line.now result }
+{
+    if is_marker(after_spaces(line)) {
+        return Directive::Skipped;
+    }
+    let (pragma, rest) = split_word(line);
+    if pragma != b"pragma" {
+        return Directive::Other;
+    }
+    let (name, rest) = split_word(rest);
+    if name != b"loopbound" {
+        return Directive::Skipped;
+    }
+    match bound_of(after_spaces(rest)) {
+        Some((value, behind)) => Directive::LoopBound {
+            value,
+            size: line.len() - behind,
+        },
+        None => Directive::Other,
+    }
 }

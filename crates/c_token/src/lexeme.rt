@@ -1,6 +1,6 @@
 //! Names, keywords, numbers and marks.
 
-ghost use Rattle.std.specs.Prelude.{◌≡◌, true, MatchOption};
+ghost use Rattle.std.specs.Prelude.{◌≡◌, ◌≤◌, true, length, MatchOption};
 ghost use Rattle.std.specs.List.{prefix_len};
 ghost use Rattle.c_tree.specs.Characters as class;
 ghost use Rattle.c_tree.specs.Lexemes as lexemes;
@@ -14,8 +14,9 @@ use crate::table::{is_keyword, mark_length};
 use c_tree::Kind;
 
 /// How many bytes at the front may stand in a name.
-fn name_length(here: &[u8]) -> usize
-    ensures { result ≡ prefix_len class.is_name_byte here.now }
+pub(crate) fn name_length(here: &[u8]) -> usize
+    ensures value { result ≡ prefix_len class.is_name_byte here.now }
+    ensures within { result ≤ length here.now }
 {
     here.iter().take_while(|byte| is_name_byte(**byte)).count()
 }

@@ -84,20 +84,23 @@ is_skipped line = is_marker (after_spaces line) || (is_pragma line && not (is_lo
 unfoldable pub operand_of : List ℕ → List ℕ
 operand_of line = after_spaces (after_word (after_word line))
 
--- its digits, and what stands behind them
-unfoldable pub bound_digits : List ℕ → List ℕ
-bound_digits line = take_while is_digit (operand_of line)
+-- the digits of an operand, and what stands behind them
+unfoldable pub operand_digits : List ℕ → List ℕ
+operand_digits operand = take_while is_digit operand
 
-unfoldable pub bound_rest : List ℕ → List ℕ
-bound_rest line = drop (prefix_len is_digit (operand_of line)) (operand_of line)
+unfoldable pub operand_rest : List ℕ → List ℕ
+operand_rest operand = drop (prefix_len is_digit operand) operand
 
 -- spaces, tabs and at most one carriage return
 unfoldable pub is_line_end : List ℕ → Bool
 is_line_end rest = list_all (λ c. is_space_or_tab c || is_carriage_return c) rest && nat_le (count_by is_carriage_return rest) 1
 
--- `pragma loopbound` and a number of 1 to 10 digits
+-- a number of 1 to 10 digits, and the end of the line
+unfoldable pub is_bound_operand : List ℕ → Bool
+is_bound_operand operand = nat_le 1 (length (operand_digits operand)) && nat_le (length (operand_digits operand)) 10 && is_line_end (operand_rest operand)
+
 unfoldable pub is_bound_line : List ℕ → Bool
-is_bound_line line = is_loopbound line && nat_le 1 (length (bound_digits line)) && nat_le (length (bound_digits line)) 10 && is_line_end (bound_rest line)
+is_bound_line line = is_loopbound line && is_bound_operand (operand_of line)
 
 -- ---- a place
 
@@ -119,8 +122,8 @@ pub record IsLexeme (here : List ℕ) (kind : Kind) (n : ℕ) : Type 0 where
 pub record IsBound (before here : List ℕ) (kind : Kind) (n : ℕ) : Type 0 where
   pub opens : opens_directive before here ≡ true
   pub line : is_bound_line (directive_of here) ≡ true
-  pub kind_is : kind ≡ Bound (digits_value 10 (bound_digits (directive_of here)))
-  pub size : n + length (bound_rest (directive_of here)) ≡ 1 + length (directive_of here)
+  pub kind_is : kind ≡ Bound (digits_value 10 (operand_digits (operand_of (directive_of here))))
+  pub size : n + length (operand_rest (operand_of (directive_of here))) ≡ 1 + length (directive_of here)
 
 -- the first n bytes are a token
 pub data IsToken (before here : List ℕ) (kind : Kind) (n : ℕ) : Type 0 where

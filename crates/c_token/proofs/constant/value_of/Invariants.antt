@@ -8,6 +8,6 @@ abbrev pub invariant-loop-byte : goal.invariant-loop-byte
 invariant-loop-byte l = record {
   value : digits_value_after l.base l.value (drop l.byte-index l.digits) ≡ digits_value l.base l.digits;
   numeral : list_all (λ c. ltb (digit_value c) l.base) (drop l.byte-index l.digits) ≡ list_all (λ c. ltb (digit_value c) l.base) l.digits;
-  small : l.value < 2 ^ 32;
+  small : l.value < 2 ^ 64;
   some : 0 < length l.digits;
 }
