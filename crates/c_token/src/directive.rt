@@ -73,14 +73,22 @@ fn after_spaces(bytes: &[u8]) -> &[u8]
     &bytes[spaces_length(bytes)..]
 }
 
-/// The word behind spaces and tabs, and what stands behind it.
-#[tactic(auto, unfolding(c_tree::specs::Lexing::word_of, c_tree::specs::Lexing::after_word))]
-fn split_word(bytes: &[u8]) -> (&[u8], &[u8])
-    ensures word { result.0.now ≡ lexing.word_of bytes.now }
-    ensures rest { result.1.now ≡ lexing.after_word bytes.now }
+/// The word behind spaces and tabs.
+#[tactic(auto, unfolding(c_tree::specs::Lexing::word_of))]
+fn word_of(bytes: &[u8]) -> &[u8]
+    ensures { result.now ≡ lexing.word_of bytes.now }
 {
     let bytes = after_spaces(bytes);
-    bytes.split_at(name_length(bytes))
+    &bytes[..name_length(bytes)]
+}
+
+/// What stands behind that word.
+#[tactic(auto, unfolding(c_tree::specs::Lexing::after_word))]
+fn after_word(bytes: &[u8]) -> &[u8]
+    ensures { result.now ≡ lexing.after_word bytes.now }
+{
+    let bytes = after_spaces(bytes);
+    &bytes[name_length(bytes)..]
 }
 
 #[tactic(auto, unfolding(c_tree::specs::Lexing::is_marker))]
@@ -91,6 +99,35 @@ fn is_marker(bytes: &[u8]) -> bool
         [] => true,
         [first, ..] => is_digit(*first),
     }
+}
+
+#[tactic(auto, unfolding(c_tree::specs::Lexing::is_pragma))]
+fn is_pragma(line: &[u8]) -> bool
+    ensures { result ≡ lexing.is_pragma line.now }
+{
+    word_of(line) == b"pragma".as_slice()
+}
+
+#[tactic(auto, unfolding(c_tree::specs::Lexing::is_loopbound))]
+fn is_loopbound(line: &[u8]) -> bool
+    ensures { result ≡ lexing.is_loopbound line.now }
+{
+    is_pragma(line) && word_of(after_word(line)) == b"loopbound".as_slice()
+}
+
+#[tactic(auto, unfolding(c_tree::specs::Lexing::is_skipped))]
+fn is_skipped(line: &[u8]) -> bool
+    ensures { result ≡ lexing.is_skipped line.now }
+{
+    is_marker(after_spaces(line)) || (is_pragma(line) && !is_loopbound(line))
+}
+
+/// What stands behind the words `pragma` and `loopbound`.
+#[tactic(auto, unfolding(c_tree::specs::Lexing::operand_of))]
+fn operand_of(line: &[u8]) -> &[u8]
+    ensures { result.now ≡ lexing.operand_of line.now }
+{
+    after_spaces(after_word(after_word(line)))
 }
 
 fn carriage_returns(bytes: &[u8]) -> usize
@@ -113,12 +150,24 @@ fn is_line_end(rest: &[u8]) -> bool
     is_spacing(rest) && carriage_returns(rest) <= 1
 }
 
+/// The digits of an operand, and what stands behind them.
+#[tactic(auto, unfolding(c_tree::specs::Lexing::operand_digits, c_tree::specs::Lexing::operand_rest))]
+fn split_operand(operand: &[u8]) -> (&[u8], &[u8])
+    ensures digits { result.0.now ≡ lexing.operand_digits operand.now }
+    ensures rest { result.1.now ≡ lexing.operand_rest operand.now }
+{
+    operand.split_at(digits_length(operand))
+}
+
 /// The number of a `loopbound` pragma, and how many bytes stand behind its digits.
 fn bound_of(operand: &[u8]) -> Option<(u64, usize)>
     ensures { IsOperand operand.now result }
 {
-    let (digits, rest) = operand.split_at(digits_length(operand));
-    if digits.len() > 10 || !is_line_end(rest) {
+    let (digits, rest) = split_operand(operand);
+    if digits.len() > 10 {
+        return None;
+    }
+    if !is_line_end(rest) {
         return None;
     }
     let value = value_of(10, digits)?;
@@ -126,21 +175,17 @@ fn bound_of(operand: &[u8]) -> Option<(u64, usize)>
 }
 
 /// What stands behind a `#` on its line.
-pub(crate) fn directive(line: &[u8]) -> Directive
+#[tactic(auto, using(crate::proofs::Operands::operand_rest_le), unfolding(c_tree::specs::Lexing::is_bound_line))]
+pub(crate) fn read_directive(line: &[u8]) -> Directive
     ensures { IsDirective line.now result }
 {
-    if is_marker(after_spaces(line)) {
+    if is_skipped(line) {
         return Directive::Skipped;
     }
-    let (pragma, rest) = split_word(line);
-    if pragma != b"pragma" {
+    if !is_loopbound(line) {
         return Directive::Other;
     }
-    let (name, rest) = split_word(rest);
-    if name != b"loopbound" {
-        return Directive::Skipped;
-    }
-    match bound_of(after_spaces(rest)) {
+    match bound_of(operand_of(line)) {
         Some((value, behind)) => Directive::LoopBound {
             value,
             size: line.len() - behind,
