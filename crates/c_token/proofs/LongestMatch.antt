@@ -9,7 +9,7 @@ use Rattle.c_tree.specs.declared.token.Kind.TheVariants.{Word, Name, Mark}
 use Rattle.c_tree.specs.Characters.{begins, is_digit, is_nondigit, is_name_byte}
 use Rattle.c_tree.specs.Lexemes.{is_among, keywords, marks, is_name, is_number_run, continues_number, could_be_token, constant_of, kind_of}
 use Rattle.c_tree.specs.Lexing.{IsLongest}
-use Rattle.c_token.specs.Faults.{HasNoToken}
+use Rattle.c_token.specs.Faults.{HasNoToken, IsBadNumber}
 use Rattle.c_token.specs.Lengths.{continues, number_length}
 use Rattle.c_token.specs.Marks.{first_length, mark_length}
 use Rattle.c_token.proofs.Fronts.{both_true, all_front, all_beyond, number_front, number_beyond, nondigit_is_no_digit, is_among-front, begins_mark, marks_begin, keywords_begin}
@@ -180,3 +180,18 @@ kind_of_word (c ∷ cs) could e = kind_nondigit c cs e could
 pub kind_of_mark : (bytes : List ℕ) → could_be_token bytes ≡ true → begins is_nondigit bytes ≡ false → begins is_digit bytes ≡ false → kind_of bytes ≡ Some Mark
 kind_of_mark [] could e f = let none = no_token_empty in cc
 kind_of_mark (c ∷ cs) could e f = kind_mark c cs e f could
+
+-- of the bytes that could be a token only a number run may be none
+pub no_constant : (here : List ℕ) (n : ℕ) → IsLongest here n → None ≡ kind_of (take n here) → IsBadNumber here
+unfolding kind_of could_be_token
+no_constant here n longest none =
+    let bytes = take n here in
+    record { n = n; longest = longest; number = by_tests (is_number_run bytes) (is_among keywords bytes) (is_name bytes) (is_among marks bytes) refl longest.could_be none; none = sym none }
+  where
+    by_tests : (number keyword name mark : Bool) → is_number_run (take n here) ≡ number → ((name || number) || mark) ≡ true
+        → None ≡ cond number (constant_of (take n here)) (cond keyword (Some Word) (cond name (Some Name) (cond mark (Some Mark) None))) → is_number_run (take n here) ≡ true
+    by_tests true keyword name mark e could k = e
+    by_tests false true name mark e could k = cc
+    by_tests false false true mark e could k = cc
+    by_tests false false false true e could k = cc
+    by_tests false false false false e could k = cc

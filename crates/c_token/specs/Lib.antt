@@ -2,3 +2,4 @@ pub mod Directives
 pub mod Faults
 pub mod Lengths
 pub mod Marks
+pub mod Pieces

@@ -1,12 +1,13 @@
 //! Lines of `#`.
 
-ghost use Rattle.std.specs.Prelude.{◌≡◌, ◌≤◌, length, count_by, ◌||◌};
+ghost use Rattle.std.specs.Prelude.{◌≡◌, ◌<◌, ◌≤◌, length, count_by, ◌||◌};
 ghost use Rattle.std.specs.List.{after_last, list_all, prefix_len};
 ghost use Rattle.c_tree.specs.Characters as class;
 ghost use Rattle.c_tree.specs.Lexing as lexing;
 ghost use Rattle.c_token.specs.Directives.{IsOperand, IsDirective};
 
 use crate::character::{is_carriage_return, is_digit, is_space_or_tab};
+use crate::comment::line_of;
 use crate::constant::value_of;
 use crate::lexeme::name_length;
 use memchr::memrchr;
@@ -48,6 +49,15 @@ fn is_blank_line(line: &[u8]) -> bool
     ensures { result ≡ list_all class.is_space_or_tab line.now }
 {
     line.iter().all(|byte| is_space_or_tab(*byte))
+}
+
+/// What stands behind the `#` on its line.
+#[tactic(auto, unfolding(c_tree::specs::Lexing::directive_of))]
+pub(crate) fn directive_of(here: &[u8]) -> &[u8]
+    requires { 0 < length here.now }
+    ensures { result.now ≡ lexing.directive_of here.now }
+{
+    line_of(&here[1..])
 }
 
 /// How many spaces and tabs stand first.

@@ -6,4 +6,5 @@ mod comment;
 mod constant;
 mod directive;
 mod lexeme;
+mod piece;
 mod table;
