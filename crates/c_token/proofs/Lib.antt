@@ -6,3 +6,4 @@ pub mod LongestMatch
 pub mod MarkTable
 pub mod Numerals
 pub mod Operands
+pub mod Sorts

@@ -33,3 +33,22 @@ pub record IsBadDirective (before here : List ℕ) : Type 0 where
   pub opens : opens_directive before here ≡ true
   pub not_skipped : is_skipped (directive_of here) ≡ false
   pub no_bound : is_bound_line (directive_of here) ≡ false
+
+-- From the text's start tokens and what separates them reach a place, and of the bytes before and behind it P is true.
+pub record StopsAt (text : List ℕ) (P : List ℕ → List ℕ → Type 0) (at : ℕ) : Type 0 where
+  pub tokens : List Token
+  pub reached : Reaches text at 0 tokens
+  pub stops : P (take at text) (drop at text)
+
+-- no token begins at a place that is reached
+abbrev pub HasStrayByte : List ℕ → ℕ → Type 0
+HasStrayByte text at = StopsAt text IsStrayByte at
+
+abbrev pub HasOpenComment : List ℕ → ℕ → Type 0
+HasOpenComment text at = StopsAt text (λ before here. IsOpenComment here) at
+
+abbrev pub HasBadNumber : List ℕ → ℕ → Type 0
+HasBadNumber text at = StopsAt text (λ before here. IsBadNumber here) at
+
+abbrev pub HasBadDirective : List ℕ → ℕ → Type 0
+HasBadDirective text at = StopsAt text IsBadDirective at
