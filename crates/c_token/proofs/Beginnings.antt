@@ -51,7 +51,7 @@ unfolding opens_line_comment is_blank
 line_no_blank here e = front_fails is_blank 47 (47 ∷ []) here e
 
 -- a `#` stands first
-directive_begins : (before here : List ℕ) → opens_directive before here ≡ true → begins_with here (codes "#") ≡ true
+pub directive_begins : (before here : List ℕ) → opens_directive before here ≡ true → begins_with here (codes "#") ≡ true
 unfolding opens_directive
 directive_begins before here e = (both_true (begins_with here (codes "#")) (list_all is_space_or_tab (after_last is_line_feed before)) e).0
 

@@ -8,7 +8,7 @@ use Rattle.c_tree.specs.Lexing.{opens_block_comment, closes_at, IsBlockComment}
 use Rattle.c_token.specs.Faults.{IsOpenComment}
 use Rattle.c_token.proofs.Lines.{not_true}
 
-closes_fits : (bytes : List ℕ) (k : ℕ) → closes_at bytes k ≡ true → OccursAt bytes (codes "*/") k
+pub closes_fits : (bytes : List ℕ) (k : ℕ) → closes_at bytes k ≡ true → OccursAt bytes (codes "*/") k
 unfolding closes_at
 closes_fits bytes k e =
     let is : codes "*/" ≡ take 2 (drop k bytes) = (bytes_eq-Decides (codes "*/") (take 2 (drop k bytes))).0 e in

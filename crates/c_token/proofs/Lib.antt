@@ -6,4 +6,6 @@ pub mod LongestMatch
 pub mod MarkTable
 pub mod Numerals
 pub mod Operands
+pub mod Reaching
+pub mod Sizes
 pub mod Sorts

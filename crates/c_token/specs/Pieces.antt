@@ -27,3 +27,7 @@ pub record IsOther (before here : List ℕ) : Type 0 where
   pub no_block_comment : opens_block_comment here ≡ false
   pub no_line_comment : opens_line_comment here ≡ false
   pub no_directive : opens_directive before here ≡ false
+
+abbrev pub size_of : Piece → ℕ
+size_of (Gap n) = n
+size_of (Lexeme kind n) = n
