@@ -2,13 +2,14 @@
 use Rattle.std.proofs.Common.{◌≡◌, ℕ, ◌+◌, ◌-◌, ◌<◌, ◌≤◌, Bool, true, false, List, [], ◌∷◌, ◌++◌, length, take, drop, Option, Some, None, Result, Ok, Err, refl, sym, ◌∙◌, ap, subst, arith, length-take, length-drop, append_assoc}
 use Rattle.std.proofs.lemmas.List.{drop_all}
 use Rattle.std.specs.Prelude.{MatchOption}
+use Rattle.std.specs.Option.{option_to_list}
 use Rattle.c_tree.specs.declared.token.Kind.{Kind}
 use Rattle.c_tree.specs.declared.token.Token.{Token}
 use Rattle.c_tree.specs.Lexing.{Separates, IsToken, Reaches, nothing, gap, token, Lexes}
 use Rattle.c_token.specs.declared.piece.Piece.{Piece}
 use Rattle.c_token.specs.declared.piece.Piece.TheVariants.{Gap, Lexeme}
 use Rattle.c_token.specs.declared.piece.Flaw.{Flaw}
-use Rattle.c_token.specs.Pieces.{IsFlaw, Stands}
+use Rattle.c_token.specs.Pieces.{IsFlaw, Stands, size_of, token_of}
 use Rattle.c_token.proofs.Sizes.{piece_some, flaw_some}
 use Rattle.c_token.proofs.Sorts.{stands_once}
 
@@ -16,6 +17,11 @@ pub Reaches-append : (text : List ℕ) (to past : ℕ) {from : ℕ} {ts us : Lis
 Reaches-append text to past {from} {ts} {us} (nothing e is) r = rw (e, is) r
 Reaches-append text to past {from} {ts} {us} (gap n s q) r = gap n s (Reaches-append text to past q r)
 Reaches-append text to past {from} {ts} {us} (token kind n rest t q is) r = token kind n (rest ++ us) t (Reaches-append text to past q r) (ap (λ (l : List Token). l ++ us) is)
+
+-- a piece leads to the place behind it
+pub piece_reaches : (text : List ℕ) (at to : ℕ) (p : Piece) → to ≡ at + size_of p → Stands (take at text) (drop at text) (Ok p) → Reaches text to at (option_to_list (token_of p at to))
+piece_reaches text at to (Gap n) e s = gap n s (nothing (sym e) refl)
+piece_reaches text at to (Lexeme kind n) e t = token kind n [] t (nothing (sym e) refl) (ap (λ (l : ℕ). record { kind = kind; from = at; to = l } ∷ []) e)
 
 -- what ends the tokens at a place: the text's end, or a flaw
 abbrev pub EndsAt : List ℕ → ℕ → Option Flaw → Type 0
@@ -52,9 +58,6 @@ no_gap_token before here k m n a b = let same = stands_once before here (Ok (Gap
 
 more_tokens : {a b : ℕ} {ts us rest rest' : List Token} {o p : Option Flaw} (t u : Token) → t ≡ u → ts ≡ t ∷ rest → us ≡ u ∷ rest' → AreSame a b rest rest' o p → AreSame a b ts us o p
 more_tokens t u e x y same = record { place = same.place; tokens = let s = same.tokens in cc; end = same.end }
-
-token_at : ℕ → Kind → ℕ → Token
-token_at from kind n = record { kind = kind; from = from; to = from + n }
 
 pub reached_once : (text : List ℕ) (a b : ℕ) (o p : Option Flaw) {from : ℕ} {ts us : List Token} → EndsAt text a o → EndsAt text b p → Reaches text a from ts → Reaches text b from us → AreSame a b ts us o p
 reached_once text a b o p {from} {ts} {us} end end' (nothing e x) (nothing f y) =

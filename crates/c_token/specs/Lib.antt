@@ -1,3 +1,4 @@
+pub mod Answers
 pub mod Directives
 pub mod Faults
 pub mod Lengths

@@ -1,5 +1,6 @@
 -- What stands at a place of a text.
-use Rattle.std.specs.Prelude.{◌≡◌, ℕ, ◌≤◌, ◌<◌, false, List, length, Result, MatchResult}
+use Rattle.std.specs.Prelude.{◌≡◌, ℕ, ◌≤◌, ◌<◌, false, List, length, Option, Some, None, Result, MatchResult}
+use Rattle.c_tree.specs.declared.token.Token.{Token}
 use Rattle.c_tree.specs.Characters.{begins, is_blank}
 use Rattle.c_tree.specs.Lexing.{Separates, IsToken, opens_block_comment, opens_line_comment, opens_directive}
 use Rattle.c_token.specs.declared.piece.Piece.{Piece}
@@ -31,3 +32,8 @@ pub record IsOther (before here : List ℕ) : Type 0 where
 abbrev pub size_of : Piece → ℕ
 size_of (Gap n) = n
 size_of (Lexeme kind n) = n
+
+-- the token that a piece between two places is
+abbrev pub token_of : Piece → ℕ → ℕ → Option Token
+token_of (Gap n) from to = None
+token_of (Lexeme kind n) from to = Some (record { kind = kind; from = from; to = to })

@@ -5,6 +5,11 @@ mod character;
 mod comment;
 mod constant;
 mod directive;
+mod fault;
 mod lexeme;
 mod piece;
+mod scanner;
 mod table;
+
+pub use c_tree::{Kind, Token};
+pub use fault::TokenFault;

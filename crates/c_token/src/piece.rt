@@ -2,7 +2,7 @@
 
 ghost use Rattle.std.specs.Prelude.{◌≡◌, ◌<◌, ℕ, List, true, length};
 ghost use Rattle.c_tree.specs.Lexing as lexing;
-ghost use Rattle.c_token.specs.Pieces.{Stands, IsOther};
+ghost use Rattle.c_token.specs.Pieces.{Stands, IsOther, size_of};
 
 use crate::character::is_blank;
 use crate::comment::{block_comment_length, line_of, opens_block_comment, opens_line_comment};
@@ -19,6 +19,18 @@ pub(crate) enum Piece {
     Lexeme(Kind, usize),
 }
 
+impl Piece {
+    /// How many bytes it takes.
+    pub(crate) fn len(self) -> usize
+        ensures { result ≡ size_of self }
+    {
+        match self {
+            Piece::Gap(length) => length,
+            Piece::Lexeme(_, length) => length,
+        }
+    }
+}
+
 /// What keeps a place from being read.
 #[derive(Clone, Copy)]
 pub(crate) enum Flaw {
@@ -32,7 +44,7 @@ pub(crate) enum Flaw {
     Directive,
 }
 
-/// What stands in front of `here`; `before` is the text up to it.
+/// What stands first in `here`; `before` is the text up to it.
 pub(crate) fn read_piece(before: &[u8], here: &[u8]) -> Result<Piece, Flaw>
     requires { 0 < length here.now }
     ensures { Stands before.now here.now result }
