@@ -1,6 +1,8 @@
+pub mod Answering
 pub mod Beginnings
 pub mod Comments
 pub mod Fronts
+pub mod Laws
 pub mod Lines
 pub mod LongestMatch
 pub mod MarkTable

@@ -1,10 +1,12 @@
 //! The scanner over a text.
 
-ghost use Rattle.std.specs.Prelude.{◌≡◌, ◌<◌, ◌≤◌, ◌^◌, length, nat_le, IfOk, OnOk, IfErr, MatchResult};
+ghost use Rattle.std.specs.Prelude.{◌≡◌, ◌<◌, ◌≤◌, ◌^◌, ◌↔◌, ℕ, List, length, nat_le, IsOkAnd, IfOk, OnOk, IfErr, MatchResult};
 ghost use Rattle.std.specs.Option.{option_to_list};
 ghost use Rattle.c_tree.specs.Lexing.{Reaches, Lexes};
 ghost use Rattle.c_token.specs.Pieces as spec;
-ghost use Rattle.c_token.specs.Answers.{IsFault, StopsHere, fault_of};
+ghost use Rattle.c_tree.specs.Places.{AreInOrder, AreSeparated};
+ghost use Rattle.c_token.specs.Faults.{HasStrayByte, HasOpenComment, HasBadNumber, HasBadDirective};
+ghost use Rattle.c_token.specs.Answers.{UnlessNoMemory, IsFault, StopsHere, fault_of};
 
 use crate::fault::TokenFault;
 use crate::piece::{Flaw, Piece, read_piece};
@@ -67,7 +69,7 @@ fn flaw_at(flaw: Flaw, at: u32) -> TokenFault
 }
 
 /// The tokens of a text, or what it has in place of them.
-pub(crate) fn scan(alloc: Global, text: &[u8]) -> Result<Vec<Token>, TokenFault>
+fn scan(alloc: Global, text: &[u8]) -> Result<Vec<Token>, TokenFault>
     requires { length text.now < 2 ^ 32 }
     ensures { MatchResult result (λ v. Lexes text.now v.items) (IsFault text.now) }
 {
@@ -79,4 +81,29 @@ pub(crate) fn scan(alloc: Global, text: &[u8]) -> Result<Vec<Token>, TokenFault>
         }
     }
     Ok(tokens)
+}
+
+/// The tokens of a text, in order: names, keywords, numbers, marks and loop bounds (C11 6.4). Each is the longest
+/// sequence of bytes that could constitute a token at its place. Blanks, comments and skipped lines of `#` separate
+/// them. A text that is no tokens is refused at the first place that cannot be read.
+#[tactic(auto, using(crate::proofs::Laws::reached_in_order, crate::proofs::Laws::reached_separated))]
+pub fn tokens(alloc: Global, text: &[u8]) -> Result<Vec<Token>, TokenFault>
+    requires { length text.now < 2 ^ 32 }
+
+    // What is given are the tokens of the text.
+    ensures lexed { IfOk result (λ v. Lexes text.now v.items) }
+    // A text that is tokens gives them, unless memory runs out.
+    ensures complete { (ts : List Token) → Lexes text.now ts → UnlessNoMemory result (IsOkAnd result (λ v. v.items ≡ ts)) }
+
+    // The tokens lie in order in the text, and only separators lie between them.
+    ensures in_order { IfOk result (λ v. AreInOrder 0 v.items (length text.now)) }
+    ensures separated { IfOk result (λ v. AreSeparated text.now 0 v.items) }
+
+    // Each fault comes exactly at the first place that cannot be read, where what it says is true.
+    ensures byte { (at : ℕ) → UnlessNoMemory result ((result ≡ Err (TokenFault.Byte at)) ↔ HasStrayByte text.now at) }
+    ensures comment { (at : ℕ) → UnlessNoMemory result ((result ≡ Err (TokenFault.Comment at)) ↔ HasOpenComment text.now at) }
+    ensures number { (at : ℕ) → UnlessNoMemory result ((result ≡ Err (TokenFault.Number at)) ↔ HasBadNumber text.now at) }
+    ensures directive { (at : ℕ) → UnlessNoMemory result ((result ≡ Err (TokenFault.Directive at)) ↔ HasBadDirective text.now at) }
+{
+    scan(alloc, text)
 }
