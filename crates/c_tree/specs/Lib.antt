@@ -6,3 +6,7 @@ pub mod Blocks
 pub mod Statements
 pub mod Runs
 pub mod Claims
+pub mod Characters
+pub mod Lexemes
+pub mod Lexing
+pub mod Places

@@ -1,0 +1,11 @@
+-- The first entry of a table that a text begins with.
+use Rattle.std.specs.Prelude.{ℕ, List, [], ◌∷◌, length, Option, Some, None, if◌then◌else◌}
+use Rattle.c_tree.specs.Characters.{begins_with}
+use Rattle.c_tree.specs.Lexemes.{marks}
+
+unfoldable pub first_length : List (List ℕ) → List ℕ → Option ℕ
+first_length [] here = None
+first_length (entry ∷ table) here = if begins_with here entry then Some (length entry) else first_length table here
+
+unfoldable pub mark_length : List ℕ → Option ℕ
+mark_length here = first_length marks here

@@ -1,0 +1,39 @@
+-- What stands at a place of a text.
+use Rattle.std.specs.Prelude.{◌≡◌, ℕ, ◌≤◌, ◌<◌, false, List, length, Option, Some, None, Result, MatchResult}
+use Rattle.c_tree.specs.declared.token.Token.{Token}
+use Rattle.c_tree.specs.Characters.{begins, is_blank}
+use Rattle.c_tree.specs.Lexing.{Separates, IsToken, opens_block_comment, opens_line_comment, opens_directive}
+use Rattle.c_token.specs.declared.piece.Piece.{Piece}
+use Rattle.c_token.specs.declared.piece.Piece.TheVariants.{Gap, Lexeme}
+use Rattle.c_token.specs.declared.piece.Flaw.{Flaw}
+use Rattle.c_token.specs.declared.piece.Flaw.TheVariants.{Byte, Comment, Number, Directive}
+use Rattle.c_token.specs.Faults.{IsStrayByte, IsOpenComment, IsBadNumber, IsBadDirective}
+
+abbrev pub IsPiece : List ℕ → List ℕ → Piece → Type 0
+IsPiece before here (Gap n) = Separates before here n
+IsPiece before here (Lexeme kind n) = IsToken before here kind n
+
+abbrev pub IsFlaw : List ℕ → List ℕ → Flaw → Type 0
+IsFlaw before here Byte = IsStrayByte before here
+IsFlaw before here Comment = IsOpenComment here
+IsFlaw before here Number = IsBadNumber here
+IsFlaw before here Directive = IsBadDirective before here
+
+abbrev pub Stands : List ℕ → List ℕ → Result Piece Flaw → Type 0
+Stands before here r = MatchResult r (IsPiece before here) (IsFlaw before here)
+
+-- neither a blank, nor a comment, nor a line of `#`
+pub record IsOther (before here : List ℕ) : Type 0 where
+  pub no_blank : begins is_blank here ≡ false
+  pub no_block_comment : opens_block_comment here ≡ false
+  pub no_line_comment : opens_line_comment here ≡ false
+  pub no_directive : opens_directive before here ≡ false
+
+abbrev pub size_of : Piece → ℕ
+size_of (Gap n) = n
+size_of (Lexeme kind n) = n
+
+-- the token that a piece between two places is
+abbrev pub token_of : Piece → ℕ → ℕ → Option Token
+token_of (Gap n) from to = None
+token_of (Lexeme kind n) from to = Some (record { kind = kind; from = from; to = to })
