@@ -1,7 +1,9 @@
 //! The trees of a C text, and what a program means.
 #![tactic(auto)]
 
+mod copies;
 mod name;
+mod no_memory;
 mod program;
 mod token;
 mod tree;
@@ -9,6 +11,7 @@ mod unit;
 mod value;
 
 pub use name::Name;
+pub use no_memory::NoMemory;
 pub use program::{BlockName, Costs, Func, Global, Input, Local, Program};
 pub use token::{Kind, Token};
 pub use tree::{BinOp, Expr, Place, Stmt, Target, Ty, UnOp, Var};
