@@ -6,3 +6,4 @@ pub mod Blocks
 pub mod Statements
 pub mod Runs
 pub mod Claims
+pub mod Literals
