@@ -7,3 +7,4 @@ pub mod Statements
 pub mod Runs
 pub mod Claims
 pub mod Literals
+pub mod Worked

@@ -21,8 +21,7 @@ pub fn sums()
     ensures wraps { binary bin.Add (Unsigned 4294967295) (plus 1) ≡ Some (Unsigned 0) }
     ensures converts { binary bin.Add (Unsigned 0) (minus 1) ≡ Some (Unsigned 4294967295) }
     ensures least { binary bin.Add (minus 2147483648) (Unsigned 2147483648) ≡ Some (Unsigned 0) }
-{
-}
+{}
 
 /// Binary `-` (C11 6.5.6).
 pub fn differences()
@@ -36,8 +35,7 @@ pub fn differences()
     ensures wraps { binary bin.Sub (Unsigned 0) (Unsigned 1) ≡ Some (Unsigned 4294967295) }
     ensures mixed { binary bin.Sub (plus 0) (Unsigned 4294967295) ≡ Some (Unsigned 1) }
     ensures small { binary bin.Sub (Unsigned 31) (plus 32) ≡ Some (Unsigned 4294967295) }
-{
-}
+{}
 
 /// `*` (C11 6.5.5).
 pub fn products()
@@ -52,8 +50,7 @@ pub fn products()
     // (2^32 - 1)^2 = 2^32 * (2^32 - 2) + 1, and -1 converts to 2^32 - 1
     ensures wraps { binary bin.Mul (Unsigned 4294967295) (Unsigned 4294967295) ≡ Some (Unsigned 1) }
     ensures mixed { binary bin.Mul (Unsigned 4294967295) (minus 1) ≡ Some (Unsigned 1) }
-{
-}
+{}
 
 /// `/` (C11 6.5.5).
 pub fn quotients()
@@ -72,8 +69,7 @@ pub fn quotients()
     ensures mixed { binary bin.Div (minus 1) (Unsigned 32) ≡ Some (Unsigned 134217727) }
     ensures by_greatest { binary bin.Div (minus 2147483648) (Unsigned 4294967295) ≡ Some (Unsigned 0) }
     ensures minus_one_as_divisor { binary bin.Div (Unsigned 4294967295) (minus 1) ≡ Some (Unsigned 1) }
-{
-}
+{}
 
 /// `%` (C11 6.5.5).
 pub fn remainders()
@@ -91,8 +87,7 @@ pub fn remainders()
     // in `unsigned`: 2^32 - 1 = (2^27 - 1)*32 + 31 = 138547332*31 + 3
     ensures unsigned { binary bin.Rem (Unsigned 4294967295) (plus 32) ≡ Some (Unsigned 31) }
     ensures mixed { binary bin.Rem (minus 1) (Unsigned 31) ≡ Some (Unsigned 3) }
-{
-}
+{}
 
 /// `<<` (C11 6.5.7).
 pub fn left_shifts()
@@ -117,8 +112,7 @@ pub fn left_shifts()
     // the type is the left operand's, whatever the count's
     ensures int_by_unsigned { binary bin.Shl (plus 1) (Unsigned 31) ≡ None }
     ensures stays_int { binary bin.Shl (plus 1) (Unsigned 4) ≡ Some (plus 16) }
-{
-}
+{}
 
 /// `>>` (C11 6.5.7; of a negative number this project's own).
 pub fn right_shifts()
@@ -137,8 +131,7 @@ pub fn right_shifts()
     // the type is the left operand's
     ensures stays_int { binary bin.Shr (minus 2147483648) (Unsigned 0) ≡ Some (minus 2147483648) }
     ensures stays_unsigned { binary bin.Shr (Unsigned 32) (plus 1) ≡ Some (Unsigned 16) }
-{
-}
+{}
 
 /// `&`, `^` and `|` (C11 6.5.10 to 6.5.12; two's complement is this project's own).
 pub fn bitwise()
@@ -154,8 +147,7 @@ pub fn bitwise()
     ensures and_mixed { binary bin.And (minus 1) (Unsigned 31) ≡ Some (Unsigned 31) }
     ensures or_mixed { binary bin.Or (Unsigned 0) (minus 2147483648) ≡ Some (Unsigned 2147483648) }
     ensures xor_mixed { binary bin.Xor (minus 1) (Unsigned 4294967295) ≡ Some (Unsigned 0) }
-{
-}
+{}
 
 /// `<`, `>`, `<=`, `>=`, `==` and `!=` (C11 6.5.8, 6.5.9): the `int` 1 or 0.
 pub fn relations()
@@ -174,8 +166,7 @@ pub fn relations()
     ensures at_least_mixed { binary bin.Ge (minus 1) (Unsigned 4294967295) ≡ Some (plus 1) }
     ensures same_mixed { binary bin.Eq (Unsigned 2147483648) (minus 2147483648) ≡ Some (plus 1) }
     ensures differs_mixed { binary bin.Ne (minus 1) (Unsigned 4294967295) ≡ Some (plus 0) }
-{
-}
+{}
 
 /// `&&` and `||` (C11 6.5.13, 6.5.14): the `int` 1 or 0, and the right operand only where the left does not decide.
 pub fn connectives()
@@ -189,8 +180,7 @@ pub fn connectives()
     ensures neither { operated bin.Either (Some (plus 0)) (Some (Unsigned 0)) ≡ Some (plus 0) }
     ensures either_undefined { operated bin.Either (Some (plus 0)) None ≡ None }
     ensures either_left_undefined { operated bin.Either None (Some (plus 1)) ≡ None }
-{
-}
+{}
 
 /// `+`, `-`, `~` and `!` (C11 6.5.3.3).
 pub fn unary_operators()
@@ -211,5 +201,4 @@ pub fn unary_operators()
     ensures not_zero { unary un.Not (Unsigned 0) ≡ Some (plus 1) }
     ensures not_minus_one { unary un.Not (minus 1) ≡ Some (plus 0) }
     ensures not_greatest { unary un.Not (Unsigned 4294967295) ≡ Some (plus 0) }
-{
-}
+{}

@@ -15,8 +15,7 @@ pub fn ranges()
     ensures greatest_unsigned { is_of ty.Unsigned (pos 4294967295) ≡ true }
     ensures above_unsigned { is_of ty.Unsigned (pos 4294967296) ≡ false }
     ensures below_unsigned { is_of ty.Unsigned (neg_ℤ (pos 1)) ≡ false }
-{
-}
+{}
 
 /// The common type is `unsigned` if one of two is (C11 6.3.1.8).
 pub fn common_types()
@@ -24,8 +23,7 @@ pub fn common_types()
     ensures right { common ty.Int ty.Unsigned ≡ ty.Unsigned }
     ensures left { common ty.Unsigned ty.Int ≡ ty.Unsigned }
     ensures unsigned { common ty.Unsigned ty.Unsigned ≡ ty.Unsigned }
-{
-}
+{}
 
 /// Conversion to `unsigned` is modulo 2^32; to `int` it keeps what fits, and else takes 2^32 off (C11 6.3.1.3; the
 /// latter is this project's own).
@@ -38,8 +36,7 @@ pub fn conversions()
     ensures from_least { convert ty.Unsigned (minus 2147483648) ≡ Unsigned 2147483648 }
     ensures from_greatest { convert ty.Unsigned (plus 2147483647) ≡ Unsigned 2147483647 }
     ensures unsigned_to_unsigned { convert ty.Unsigned (Unsigned 32) ≡ Unsigned 32 }
-{
-}
+{}
 
 /// The 32 bits of a value, as a number (two's complement, this project's own).
 pub fn words()
@@ -48,5 +45,4 @@ pub fn words()
     ensures of_minus_one { of_word ty.Int 4294967295 ≡ minus 1 }
     ensures of_least { of_word ty.Int 2147483648 ≡ minus 2147483648 }
     ensures of_unsigned { of_word ty.Unsigned 4294967295 ≡ Unsigned 4294967295 }
-{
-}
+{}
