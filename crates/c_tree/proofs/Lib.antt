@@ -4,3 +4,6 @@ pub mod Callees
 pub mod WorkedRuns
 pub mod WorkedExpressions
 pub mod WorkedStatements
+pub mod Ranges
+pub mod Slots
+pub mod Evaluated

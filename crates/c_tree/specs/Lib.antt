@@ -8,3 +8,7 @@ pub mod Runs
 pub mod Claims
 pub mod Literals
 pub mod Worked
+pub mod Spans
+pub mod Layouts
+pub mod WellFormed
+pub mod Asked

@@ -1,6 +1,7 @@
 //! Facts about the definitions, as the contracts of functions that do nothing.
 
 pub mod expressions;
+pub mod kept;
 pub mod operators;
 pub mod runs;
 pub mod statements;
