@@ -7,3 +7,5 @@ pub mod WorkedStatements
 pub mod Ranges
 pub mod Slots
 pub mod Evaluated
+pub mod SimpleKept
+pub mod ExecKept

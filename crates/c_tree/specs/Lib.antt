@@ -12,3 +12,4 @@ pub mod Spans
 pub mod Layouts
 pub mod WellFormed
 pub mod Asked
+pub mod Kept
