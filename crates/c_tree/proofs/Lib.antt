@@ -9,3 +9,6 @@ pub mod Slots
 pub mod Evaluated
 pub mod SimpleKept
 pub mod ExecKept
+pub mod Called
+pub mod StmtsFind
+pub mod Begun
