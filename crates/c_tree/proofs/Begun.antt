@@ -1,5 +1,5 @@
 -- A run of a well-formed program on a fitting input begins with a store of the layout and with the arguments of the entry function.
-use Rattle.std.proofs.Common.{◌≡◌, ◌<◌, ◌≤◌, ℕ, zero, suc, ◌+◌, ◌-◌, Bool, true, false, if◌then◌else◌, List, [], ◌∷◌, ◌++◌, length, take, drop, map, replicate, Option, Some, None, ℤ, pos, negsuc, refl, sym, subst, ap, ◌∙◌, arith, length-append}
+use Rattle.std.proofs.Common.{◌≡◌, ◌≤◌, ℕ, zero, suc, ◌-◌, Bool, true, false, if◌then◌else◌, List, [], ◌∷◌, ◌++◌, length, take, drop, map, replicate, Option, Some, None, ℤ, pos, negsuc, refl, ap, ◌∙◌, arith, length-append}
 use Rattle.std.specs.Prelude.{IsTrue, IsSome, IfSome, ◌&&◌, slice_get, unwrap_or}
 use Rattle.std.proofs.lemmas.Bool.{and_parts}
 use Rattle.c_tree.specs.declared.tree.Ty.{Ty}
@@ -9,12 +9,9 @@ use Rattle.c_tree.specs.declared.program.Global.{Global as Outside}
 use Rattle.c_tree.specs.declared.program.Func.{Func}
 use Rattle.c_tree.specs.declared.program.Program.{Program}
 use Rattle.c_tree.specs.declared.program.Input.{Input}
-use Rattle.c_tree.specs.declared.value.Value.{Value}
-use Rattle.c_tree.specs.declared.value.Slot.{Slot}
-use Rattle.c_tree.specs.declared.value.Slot.TheVariants.{Unset, Number, Numbers}
 use Rattle.c_tree.specs.Values.{is_of, of_int, zero_of}
-use Rattle.c_tree.specs.Runs.{types_of, param_types, outer_types, entry_types, input_types, are_of, fits, global_slot, global_slots, arguments, callees}
-use Rattle.c_tree.specs.Layouts.{Shape, shape_of, global_shapes, IsValueOf, AreValuesOf, IsSlotOf, EachSlot}
+use Rattle.c_tree.specs.Runs.{types_of, param_types, outer_types, entry_types, are_of, fits, global_slot, global_slots, arguments, callees}
+use Rattle.c_tree.specs.Layouts.{Shape, global_shapes, IsValueOf, AreValuesOf, IsSlotOf, EachSlot}
 use Rattle.c_tree.specs.WellFormed.{HasParams, AreNumbersOf, WellFormedGlobal, WellFormedGlobals, WellFormedFuncs, WellFormed}
 use Rattle.c_tree.specs.Kept.{AreValues}
 use Rattle.c_tree.proofs.Ranges.{zero_in}

@@ -1,20 +1,19 @@
 -- The functions of a well-formed program come back with globals of the layout and a result of their type.
-use Rattle.std.proofs.Common.{◌≡◌, ◌<◌, ◌≤◌, ℕ, zero, suc, ◌+◌, ◌-◌, Bool, true, false, List, [], ◌∷◌, ◌++◌, length, replicate, Option, Some, None, refl, sym, subst, ap, arith, append_assoc}
-use Rattle.std.specs.Prelude.{IsTrue, IsSome, slice_get}
+use Rattle.std.proofs.Common.{◌≡◌, ◌<◌, ℕ, zero, suc, false, List, [], ◌∷◌, ◌++◌, length, Option, Some, None, refl, sym, subst, ap, arith, append_assoc}
+use Rattle.std.specs.Prelude.{IsSome, slice_get}
 use Rattle.c_tree.specs.declared.tree.Ty.{Ty}
 use Rattle.c_tree.specs.declared.tree.Target.{Target}
 use Rattle.c_tree.specs.declared.program.Local.{Local as Declared}
 use Rattle.c_tree.specs.declared.program.Func.{Func}
 use Rattle.c_tree.specs.declared.program.Program.{Program}
 use Rattle.c_tree.specs.declared.value.Value.{Value}
-use Rattle.c_tree.specs.declared.value.Slot.{Slot}
-use Rattle.c_tree.specs.declared.value.Slot.TheVariants.{Unset, Number, Numbers}
+use Rattle.c_tree.specs.declared.value.Slot.TheVariants.{Number}
 use Rattle.c_tree.specs.declared.value.Store.{Store}
 use Rattle.c_tree.specs.declared.value.Way.TheVariants as way
 use Rattle.c_tree.specs.Values.{convert, zero_of}
 use Rattle.c_tree.specs.Statements.{Callee, Outcome, Ends, Undefined, OverBound, list_exec}
 use Rattle.c_tree.specs.Runs.{fresh, entry_slots, result_of, back, callee, callees}
-use Rattle.c_tree.specs.Layouts.{Shape, Layout, shape_of, local_shapes, global_shapes, IsSlotOf, EachSlot, HasLayout}
+use Rattle.c_tree.specs.Layouts.{Shape, Layout, local_shapes, global_shapes, IsSlotOf, EachSlot}
 use Rattle.c_tree.specs.WellFormed.{Context, HasParams, WellFormedFunc, WellFormedFuncs, WellFormedCallee, WellFormed}
 use Rattle.c_tree.specs.Kept.{IsWayOf, Keeps, AreValues, IsResultOf, GivesBack, IsCalleeOf, AreCalleesOf}
 use Rattle.c_tree.proofs.Ranges.{convert_in, zero_in}

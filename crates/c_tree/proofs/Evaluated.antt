@@ -1,17 +1,16 @@
 -- A well-formed expression, in a store of the layout: its value is one of its type, and its variables are there.
-use Rattle.std.proofs.Common.{◌≡◌, ℕ, ◌^◌, List, [], ◌∷◌, Option, Some, None, refl, arith}
-use Rattle.std.specs.Prelude.{IsTrue, IfSome, option_map, pos}
+use Rattle.std.proofs.Common.{ℕ, ◌^◌, List, [], ◌∷◌, Option, Some, None, arith}
+use Rattle.std.specs.Prelude.{IsTrue, IfSome, pos}
 use Rattle.std.proofs.lemmas.Bool.{ltb-true}
 use Rattle.c_tree.specs.declared.tree.Ty.{Ty}
 use Rattle.c_tree.specs.declared.tree.Ty.TheVariants as ty
 use Rattle.c_tree.specs.declared.tree.Expr.{Expr, Row_of-Expr, end_of-Expr, more_of-Expr}
 use Rattle.c_tree.specs.declared.tree.Expr.TheVariants.{Num, Name, Elem', Un', Cast', Bin', Cond'}
-use Rattle.c_tree.specs.declared.value.Value.{Value}
 use Rattle.c_tree.specs.declared.value.Store.{Store}
 use Rattle.c_tree.specs.Values.{common, of_word, is_of}
 use Rattle.c_tree.specs.Stores.{slot}
 use Rattle.c_tree.specs.Expressions.{type_of, row_type, val, row_val}
-use Rattle.c_tree.specs.Layouts.{Layout, shape, IsValueOf, IsReadSlotOf, HasReadLayout}
+use Rattle.c_tree.specs.Layouts.{Layout, shape, IsValueOf, HasReadLayout}
 use Rattle.c_tree.specs.WellFormed.{WellFormedExpr, WellFormedPart, WellFormedExprs, WellFormedOptional}
 use Rattle.c_tree.specs.Asked.{FindsExpr, FindsPart, FindsExprs, FindsOptional}
 use Rattle.c_tree.proofs.Ranges.{of_word_in, unary_of, cast_gives, operated_gives, chosen_gives}

@@ -1,6 +1,6 @@
 -- A well-formed statement keeps the layout of the store, and ends in a way that its place allows.
-use Rattle.std.proofs.Common.{◌≡◌, ℕ, zero, suc, ◌+◌, Bool, true, false, if◌then◌else◌, List, [], ◌∷◌, ◌++◌, length, Option, Some, None, refl, sym, subst}
-use Rattle.std.specs.Prelude.{IsTrue, IfSome, IsSome, slice_get}
+use Rattle.std.proofs.Common.{◌≡◌, ℕ, zero, suc, ◌+◌, Bool, true, false, if◌then◌else◌, List, [], ◌∷◌, length, Option, Some, None}
+use Rattle.std.specs.Prelude.{IsTrue, IfSome, slice_get}
 use Rattle.c_tree.specs.declared.tree.Ty.{Ty}
 use Rattle.c_tree.specs.declared.tree.Var.TheVariants.{Local}
 use Rattle.c_tree.specs.declared.tree.Expr.{Expr}
@@ -11,19 +11,18 @@ use Rattle.c_tree.specs.declared.tree.Stmt.TheVariants.{Empty, Scalar, Array, As
 use Rattle.c_tree.specs.declared.program.BlockName.{BlockName}
 use Rattle.c_tree.specs.declared.program.Func.{Func}
 use Rattle.c_tree.specs.declared.value.Value.{Value}
-use Rattle.c_tree.specs.declared.value.Slot.{Slot}
 use Rattle.c_tree.specs.declared.value.Store.{Store}
 use Rattle.c_tree.specs.declared.value.Way.{Way}
 use Rattle.c_tree.specs.declared.value.Way.TheVariants as way
-use Rattle.c_tree.specs.Values.{is_true, is_value}
-use Rattle.c_tree.specs.Stores.{with_globals, unset_local}
+use Rattle.c_tree.specs.Values.{is_true}
+use Rattle.c_tree.specs.Stores.{with_globals}
 use Rattle.c_tree.specs.Expressions.{type_of, val, all_values}
 use Rattle.c_tree.specs.Blocks.{is_simple, blocks, row_blocks, held_blocks}
 use Rattle.c_tree.specs.Statements.{Callee, Back, Gives, Lost, Outcome, Ends, Undefined, OverBound, with_value, stored, after, then_do, turn_do, block, entered, simple, while_turns, do_turns, unset_target, give, come_back, call, return_value, exec, row_exec, held_exec, list_exec}
-use Rattle.c_tree.specs.Layouts.{Layout, shape, is_scalar, IsValueOf, IsSlotOf, EachSlot, HasLayout, HasReadLayout}
-use Rattle.c_tree.specs.WellFormed.{Context, WellFormedExpr, WellFormedOptional, WellFormedTarget, WellFormedCallee, WellFormedStmt, WellFormedRow, WellFormedHeld, WellFormedSole, WellFormedList, returns_for, is_initialiser, is_step}
-use Rattle.c_tree.specs.Kept.{IsWayOf, Keeps, AreValues, IsResultOf, GivesBack, IsCalleeOf, AreCalleesOf}
-use Rattle.c_tree.proofs.Slots.{read_layout, unset_reads, unset_keeps, put_keeps}
+use Rattle.c_tree.specs.Layouts.{Layout, shape, is_scalar, IsValueOf, HasLayout}
+use Rattle.c_tree.specs.WellFormed.{Context, WellFormedOptional, WellFormedTarget, WellFormedCallee, WellFormedStmt, WellFormedRow, WellFormedHeld, WellFormedSole, WellFormedList, returns_for, is_initialiser, is_step}
+use Rattle.c_tree.specs.Kept.{IsWayOf, Keeps, AreValues, IsResultOf, GivesBack, AreCalleesOf}
+use Rattle.c_tree.proofs.Slots.{read_layout, unset_keeps, put_keeps}
 use Rattle.c_tree.proofs.Evaluated.{val_gives}
 use Rattle.c_tree.proofs.SimpleKept.{values_give, declared_keeps, list_keeps, assignment_keeps}
 

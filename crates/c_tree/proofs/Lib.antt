@@ -12,3 +12,5 @@ pub mod ExecKept
 pub mod Called
 pub mod StmtsFind
 pub mod Begun
+pub mod SpanLaws
+pub mod SpanLayers

@@ -1,5 +1,5 @@
 -- Each operator gives a value in the range of its type.
-use Rattle.std.proofs.Common.{◌≡◌, ◌≤◌, ◌<◌, ℕ, zero, suc, ◌+◌, ◌-◌, ◌*◌, ◌/◌, ◌%◌, ◌^◌, Bool, true, false, if◌then◌else◌, Option, Some, None, ℤ, pos, negsuc, refl, subst, sym, arith}
+use Rattle.std.proofs.Common.{◌≡◌, ◌<◌, ℕ, zero, suc, ◌+◌, ◌-◌, ◌*◌, ◌/◌, ◌%◌, ◌^◌, Bool, true, false, if◌then◌else◌, Option, Some, None, ℤ, pos, negsuc, refl, subst, arith}
 use Rattle.std.specs.Prelude.{IsTrue, IfSome, option_and_then, option_map, int_lt, int_le, int_div, int_rem, ◌+ℤ◌, ◌-ℤ◌, ◌*ℤ◌, bit_and, bit_or, bit_xor, nat_lt, nat_le, not, ◌==◌}
 use Rattle.std.specs.Int.{cast_signed, cast_unsigned, w32, int_shr}
 use Rattle.std.proofs.lemmas.Bool.{ltb-true, lt-ltb}

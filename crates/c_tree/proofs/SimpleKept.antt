@@ -1,25 +1,23 @@
 -- A well-formed simple statement keeps the layout of the store.
-use Rattle.std.proofs.Common.{◌≡◌, ◌≤◌, ℕ, zero, suc, ◌+◌, ◌-◌, Bool, true, false, List, [], ◌∷◌, ◌++◌, length, replicate, Option, Some, None, refl, sym, subst, ap, ◌∙◌, arith, length-append}
-use Rattle.std.specs.Prelude.{IsTrue, IfSome, slice_get, option_and_then, option_map, pos, negsuc}
+use Rattle.std.proofs.Common.{◌≡◌, ◌≤◌, ℕ, zero, suc, ◌-◌, List, [], ◌∷◌, ◌++◌, length, replicate, Option, Some, None, refl, sym, subst, ap, ◌∙◌, arith, length-append}
+use Rattle.std.specs.Prelude.{IsTrue, IfSome, slice_get, option_and_then, option_map}
 use Rattle.c_tree.specs.declared.tree.Ty.{Ty}
-use Rattle.c_tree.specs.declared.tree.Var.{Var}
 use Rattle.c_tree.specs.declared.tree.Var.TheVariants.{Local}
 use Rattle.c_tree.specs.declared.tree.BinOp.{BinOp}
 use Rattle.c_tree.specs.declared.tree.Expr.{Expr}
 use Rattle.c_tree.specs.declared.tree.Place.{Place}
 use Rattle.c_tree.specs.declared.tree.Place.TheVariants.{Scalar as PlainPlace, Elem as ElemPlace}
 use Rattle.c_tree.specs.declared.value.Value.{Value}
-use Rattle.c_tree.specs.declared.value.Value.TheVariants.{Int, Unsigned}
 use Rattle.c_tree.specs.declared.value.Slot.{Slot}
 use Rattle.c_tree.specs.declared.value.Slot.TheVariants.{Unset, Number, Numbers}
 use Rattle.c_tree.specs.declared.value.Store.{Store}
-use Rattle.c_tree.specs.Values.{convert, converted, zero_of, is_value}
+use Rattle.c_tree.specs.Values.{converted, zero_of, is_value}
 use Rattle.c_tree.specs.Operators.{operated}
-use Rattle.c_tree.specs.Stores.{slot, slot_ty, array_length, number_in, index, padded, unset_local, put_number, put_at, put_list}
-use Rattle.c_tree.specs.Expressions.{type_of, val, all_values, element, bin_ty}
+use Rattle.c_tree.specs.Stores.{slot, slot_ty, array_length, index, padded, unset_local, put_number, put_at, put_list}
+use Rattle.c_tree.specs.Expressions.{type_of, val, all_values, bin_ty}
 use Rattle.c_tree.specs.Statements.{place_value, assigned_value, assign_at}
 use Rattle.c_tree.specs.Layouts.{Shape, Layout, shape, is_scalar, IsValueOf, AreValuesOf, IsSlotOf, HasLayout, HasReadLayout}
-use Rattle.c_tree.specs.WellFormed.{WellFormedExpr, WellFormedExprs, WellFormedOptional, WellFormedPlace, FitsLength, FitsArray}
+use Rattle.c_tree.specs.WellFormed.{WellFormedExpr, WellFormedExprs, WellFormedPlace, FitsLength, FitsArray}
 use Rattle.c_tree.specs.Kept.{AreValues}
 use Rattle.c_tree.proofs.Ranges.{convert_in, zero_in, operated_gives}
 use Rattle.c_tree.proofs.Slots.{SlotFor, slot_at, read_at, read_layout, written, number_gives, element_gives, unset_reads, unset_keeps, put_keeps, put_at_keeps}

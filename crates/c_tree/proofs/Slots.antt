@@ -1,6 +1,6 @@
 -- Slots of a layout: what is read there, and what a write keeps.
-use Rattle.std.proofs.Common.{◌≡◌, ℕ, zero, suc, Bool, true, false, List, [], ◌∷◌, ◌++◌, length, Option, Some, None, refl, sym, subst, ap, ◌∙◌, arith}
-use Rattle.std.specs.Prelude.{IsTrue, IfSome, if◌then◌else◌, nat_lt, slice_get, slice_set, is_none, is_some, option_and_then, pos, negsuc}
+use Rattle.std.proofs.Common.{◌≡◌, ℕ, zero, suc, Bool, true, false, List, [], ◌∷◌, length, Option, Some, None, refl, sym, subst, ◌∙◌}
+use Rattle.std.specs.Prelude.{IsTrue, IfSome, if◌then◌else◌, nat_lt, slice_get, slice_set, is_none, is_some, pos, negsuc}
 use Rattle.c_tree.specs.declared.tree.Ty.{Ty}
 use Rattle.c_tree.specs.declared.tree.Var.{Var}
 use Rattle.c_tree.specs.declared.tree.Var.TheVariants.{Local, Global}
@@ -11,7 +11,7 @@ use Rattle.c_tree.specs.declared.value.Slot.TheVariants.{Unset, Number, Numbers}
 use Rattle.c_tree.specs.declared.value.Store.{Store}
 use Rattle.std.proofs.lemmas.List.{length-set}
 use Rattle.c_tree.specs.Values.{convert, is_value}
-use Rattle.c_tree.specs.Stores.{slot, slot_ty, number_in, number_at, index, with_slot, unset_local, put_number, put_at}
+use Rattle.c_tree.specs.Stores.{slot, slot_ty, number_in, number_at, with_slot, unset_local, put_number, put_at}
 use Rattle.c_tree.specs.Expressions.{element}
 use Rattle.c_tree.specs.Layouts.{Shape, Layout, shape, is_scalar, is_array, IsValueOf, AreValuesOf, IsSlotOf, IsReadSlotOf, EachSlot, HasLayout, HasReadLayout}
 use Rattle.c_tree.specs.Asked.{has_scalar, has_array}

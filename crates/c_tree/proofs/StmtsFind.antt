@@ -1,9 +1,8 @@
 -- A well-formed statement finds the variables and the function that it asks for.
-use Rattle.std.proofs.Common.{◌≡◌, ℕ, Bool, true, false, List, [], ◌∷◌, length, Option, Some, None, refl}
-use Rattle.std.specs.Prelude.{IsTrue, slice_get, is_some}
+use Rattle.std.proofs.Common.{ℕ, Bool, List, length, Option, Some, None, refl}
+use Rattle.std.specs.Prelude.{IsTrue, is_some}
 use Rattle.c_tree.specs.declared.tree.Var.{Var}
 use Rattle.c_tree.specs.declared.tree.Var.TheVariants.{Local}
-use Rattle.c_tree.specs.declared.tree.Expr.{Expr}
 use Rattle.c_tree.specs.declared.tree.Place.{Place}
 use Rattle.c_tree.specs.declared.tree.Place.TheVariants.{Scalar as PlainPlace, Elem as ElemPlace}
 use Rattle.c_tree.specs.declared.tree.Target.{Target}
@@ -15,7 +14,7 @@ use Rattle.c_tree.specs.Stores.{slot}
 use Rattle.c_tree.specs.Statements.{Callee, unset_target}
 use Rattle.c_tree.specs.Layouts.{Shape, Layout, shape, is_scalar, is_array, HasLayout, HasReadLayout}
 use Rattle.c_tree.specs.WellFormed.{Context, WellFormedPlace, WellFormedTarget, WellFormedStmt, FitsLength, FitsArray}
-use Rattle.c_tree.specs.Asked.{has_scalar, has_array, FindsExpr, FindsPlace, FindsTarget, FindsStmt}
+use Rattle.c_tree.specs.Asked.{has_scalar, has_array, FindsPlace, FindsTarget, FindsStmt}
 use Rattle.c_tree.specs.Kept.{AreCalleesOf}
 use Rattle.c_tree.proofs.Slots.{read_at, read_layout, unset_reads, scalar_there, array_there}
 use Rattle.c_tree.proofs.Evaluated.{expr_finds, exprs_find, optional_finds}

@@ -1,5 +1,5 @@
 -- What an evaluation asks of a store and of the functions above: that each variable and function is there and of the right kind.
-use Rattle.std.specs.Prelude.{ℕ, Bool, true, false, IsTrue, IsSome, List, [], ◌∷◌, slice_get, Option, Some, None}
+use Rattle.std.specs.Prelude.{Bool, true, false, IsTrue, IsSome, List, [], ◌∷◌, slice_get, Option, Some, None}
 use Rattle.c_tree.specs.declared.tree.Var.TheVariants.{Local}
 use Rattle.c_tree.specs.declared.tree.Expr.{Expr, Row_of-Expr, end_of-Expr, more_of-Expr}
 use Rattle.c_tree.specs.declared.tree.Expr.TheVariants.{Num, Name, Elem', Un', Cast', Bin', Cond'}

@@ -1,7 +1,6 @@
 -- What execution keeps: the layout of the store, ways that the place allows, and results of the function's type.
-use Rattle.std.specs.Prelude.{◌≡◌, ℕ, Bool, IsTrue, List, [], ◌∷◌, length, Option, Some, None}
+use Rattle.std.specs.Prelude.{◌≡◌, Bool, IsTrue, List, [], ◌∷◌, length, Option, Some, None}
 use Rattle.c_tree.specs.declared.tree.Ty.{Ty}
-use Rattle.c_tree.specs.declared.program.BlockName.{BlockName}
 use Rattle.c_tree.specs.declared.program.Func.{Func}
 use Rattle.c_tree.specs.declared.value.Value.{Value}
 use Rattle.c_tree.specs.declared.value.Slot.{Slot}

@@ -24,11 +24,11 @@ unfoldable mutual
   scales k Break run = k ∷ []
   scales k Continue run = k ∷ []
   scales k (Return e) run = k ∷ []
-  scales k (If' e a x c y) run = k ∷ row_scales k x false ++ row_scales k y false
+  scales k (If' e a x c y) run = k ∷ (row_scales k x false ++ row_scales k y false)
   scales k (While' b e a x) run = k * (b + 1) ∷ row_scales (k * b) x false
-  scales k (Do' b a x e) run = row_scales (k * b) x false ++ k * b ∷ []
+  scales k (Do' b a x e) run = row_scales (k * b) x false ++ (k * b ∷ [])
   scales k (For' b i e j a x) run =
-      held_scales k i ++ k * (b + 1) ∷ held_scales (k * b) j ++ row_scales (k * b) x false
+      held_scales k i ++ (k * (b + 1) ∷ (held_scales (k * b) j ++ row_scales (k * b) x false))
   scales k (Group' a x) run = row_scales k x false
 
   pub row_scales : {m : _} → ℕ → Row_of-Stmt m → Bool → List ℕ

@@ -1,8 +1,7 @@
 -- What a checked program keeps: each variable and function that it names is there and of the right kind, and each number is in its range.
 use Rattle.std.specs.Prelude.{◌≡◌, ◌≤◌, ◌<◌, ℕ, zero, suc, ◌^◌, Bool, true, false, IsTrue, List, [], ◌∷◌, ◌++◌, length, slice_get, Option, Some, None, is_some, unwrap_or, ℤ, pos}
 use Rattle.c_tree.specs.declared.tree.Ty.{Ty}
-use Rattle.c_tree.specs.declared.tree.Var.{Var}
-use Rattle.c_tree.specs.declared.tree.Var.TheVariants.{Local, Global}
+use Rattle.c_tree.specs.declared.tree.Var.TheVariants.{Local}
 use Rattle.c_tree.specs.declared.tree.BinOp.{BinOp}
 use Rattle.c_tree.specs.declared.tree.BinOp.TheVariants as bin
 use Rattle.c_tree.specs.declared.tree.Expr.{Expr, Row_of-Expr, end_of-Expr, more_of-Expr}

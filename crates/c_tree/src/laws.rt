@@ -4,5 +4,6 @@ pub mod expressions;
 pub mod kept;
 pub mod operators;
 pub mod runs;
+pub mod spans;
 pub mod statements;
 pub mod values;
