@@ -1,3 +1,16 @@
 pub mod ValLayers
 pub mod ExecLayers
 pub mod Callees
+pub mod WorkedRuns
+pub mod WorkedExpressions
+pub mod WorkedStatements
+pub mod Ranges
+pub mod Slots
+pub mod Evaluated
+pub mod SimpleKept
+pub mod ExecKept
+pub mod Called
+pub mod StmtsFind
+pub mod Begun
+pub mod SpanLaws
+pub mod SpanLayers

@@ -10,3 +10,10 @@ pub mod Characters
 pub mod Lexemes
 pub mod Lexing
 pub mod Places
+pub mod Literals
+pub mod Worked
+pub mod Spans
+pub mod Layouts
+pub mod WellFormed
+pub mod Asked
+pub mod Kept

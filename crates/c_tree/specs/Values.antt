@@ -25,6 +25,11 @@ is_of ty.Int (negsuc n) = nat_lt n (2 ^ 31)
 is_of ty.Unsigned (pos n) = nat_lt n (2 ^ 32)
 is_of ty.Unsigned (negsuc n) = false
 
+-- whether a value lies in the range of its type
+abbrev pub is_value : Value → Bool
+is_value (Int z) = is_of ty.Int z
+is_value (Unsigned n) = is_of ty.Unsigned (pos n)
+
 -- a number of a type's range, as a value of it
 abbrev pub of_int : Ty → ℤ → Value
 of_int ty.Int z = Int z

@@ -1,7 +1,10 @@
 //! The trees of a C text, and what a program means.
 #![tactic(auto)]
 
+mod copies;
+pub mod laws;
 mod name;
+mod no_memory;
 mod program;
 mod token;
 mod tree;
@@ -9,6 +12,7 @@ mod unit;
 mod value;
 
 pub use name::Name;
+pub use no_memory::NoMemory;
 pub use program::{BlockName, Costs, Func, Global, Input, Local, Program};
 pub use token::{Kind, Token};
 pub use tree::{BinOp, Expr, Place, Stmt, Target, Ty, UnOp, Var};
