@@ -1,0 +1,29 @@
+-- Sums of whole numbers, and the numbers that an evaluation takes on its way.
+-- An evaluation is written as the list of those numbers in order, over whole numbers without bounds. It can be made
+-- in i128 exactly where none of them leaves i128.
+use Rattle.std.specs.Prelude.{ℤ, pos, ◌+ℤ◌, ◌-ℤ◌, List, [], ◌∷◌, All, Any}
+use Rattle.std.specs.Int.{w128}
+use Rattle.std.specs.Prelude.{FitsSigned}
+
+-- the sum of a list of whole numbers
+abbrev pub total : List ℤ → ℤ
+total [] = pos 0
+total (z ∷ zs) = z +ℤ total zs
+
+-- adding the numbers of a list to s one by one takes each of them, and each sum
+abbrev pub addition_steps : ℤ → List ℤ → List ℤ
+addition_steps s [] = []
+addition_steps s (z ∷ zs) = z ∷ (s +ℤ z) ∷ addition_steps (s +ℤ z) zs
+
+-- taking the numbers of a list from r one by one takes each of them, and each difference
+abbrev pub subtraction_steps : ℤ → List ℤ → List ℤ
+subtraction_steps r [] = []
+subtraction_steps r (z ∷ zs) = z ∷ (r -ℤ z) ∷ subtraction_steps (r -ℤ z) zs
+
+-- every step lies in i128
+abbrev pub StaysInI128 : List ℤ → Type 0
+StaysInI128 steps = All (λ z. FitsSigned w128 z) steps
+
+-- some step lies outside i128
+abbrev pub LeavesI128 : List ℤ → Type 0
+LeavesI128 steps = Any (λ z. ¬ FitsSigned w128 z) steps
