@@ -1,13 +1,11 @@
-// A library with one function.
+//! The bound that multipliers of rows give: the value of the dual of a linear program over a box, and that no vector of
+//! counts in the box that meets the rows costs more (weak duality).
 #![tactic(auto)]
 
-ghost use Rattle.std.specs.Prelude.{◌≡◌};
-ghost use Rattle.bound_cert.specs.Echo.{echo_of};
+mod dual;
+mod fitting;
+mod law;
 
-// The `ensures` clause is the contract: what `echo` returns is `echo_of` of its argument, a definition
-// in `specs/Echo.antt`, which a caller's clause can cite too.
-pub fn echo(x: usize) -> usize
-    ensures { result ≡ echo_of x }
-{
-    x
-}
+pub use dual::dual_bound;
+pub use fitting::by_fits;
+pub use law::weak_duality;

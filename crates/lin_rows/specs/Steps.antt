@@ -10,15 +10,18 @@ abbrev pub total : List ℤ → ℤ
 total [] = pos 0
 total (z ∷ zs) = z +ℤ total zs
 
--- adding the numbers of a list to s one by one takes each of them, and each sum
-abbrev pub addition_steps : ℤ → List ℤ → List ℤ
-addition_steps s [] = []
-addition_steps s (z ∷ zs) = z ∷ (s +ℤ z) ∷ addition_steps (s +ℤ z) zs
+-- taking the numbers of a list one by one into s takes each of them, and each result
+abbrev pub steps_by : (ℤ → ℤ → ℤ) → ℤ → List ℤ → List ℤ
+steps_by op s [] = []
+steps_by op s (z ∷ zs) = z ∷ op s z ∷ steps_by op (op s z) zs
 
--- taking the numbers of a list from r one by one takes each of them, and each difference
+-- adding them to s
+abbrev pub addition_steps : ℤ → List ℤ → List ℤ
+addition_steps s zs = steps_by (λ sum z. sum +ℤ z) s zs
+
+-- taking them from r
 abbrev pub subtraction_steps : ℤ → List ℤ → List ℤ
-subtraction_steps r [] = []
-subtraction_steps r (z ∷ zs) = z ∷ (r -ℤ z) ∷ subtraction_steps (r -ℤ z) zs
+subtraction_steps r zs = steps_by (λ rest z. rest -ℤ z) r zs
 
 -- every step lies in i128
 abbrev pub StaysInI128 : List ℤ → Type 0
