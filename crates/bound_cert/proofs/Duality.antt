@@ -88,18 +88,18 @@ at_most_floor (pos k) (pos a) n one h = let least = le-div n a k (omega (arith, 
 
 -- ---- the law
 
-in_box-length : (limits : List (ℕ × ℕ)) (x : List ℕ) → AllZip (λ (limit : ℕ × ℕ) (n : ℕ). (limit.0 ≤ n) × (n ≤ limit.1)) limits x → length limits ≡ length x
-in_box-length [] [] within = refl
-in_box-length [] (n ∷ ns) within = absurd within
-in_box-length (limit ∷ limits) [] within = absurd within
-in_box-length (limit ∷ limits) (n ∷ ns) within = ap suc (in_box-length limits ns within.1)
+pub AllZip-length : {A B : Type 0} (R : A → B → Type 0) (xs : List A) (bs : List B) → AllZip R xs bs → length xs ≡ length bs
+AllZip-length R [] [] each = refl
+AllZip-length R [] (b ∷ bs) each = absurd each
+AllZip-length R (a ∷ xs) [] each = absurd each
+AllZip-length R (a ∷ xs) (b ∷ bs) each = ap suc (AllZip-length R xs bs each.1)
 
 swap-le : (a b c d : ℤ) → a ≤ℤ (b +ℤ c) → c ≤ℤ d → a ≤ℤ (d +ℤ b)
 swap-le a b c d h k = omega (arith, ints)
 
 pub weak_duality_lem : WeakDuality
 weak_duality_lem rows objective within by entries fits x inside met =
-    let counts : length within.limits ≡ length x = in_box-length within.limits x inside in
+    let counts : length within.limits ≡ length x = AllZip-length (λ (limit : ℕ × ℕ) (n : ℕ). (limit.0 ≤ n) × (n ≤ limit.1)) within.limits x inside in
     let edges : length x ≡ rows.edges = sym counts ∙ entries.limits in
     let below = subst (λ n. All (λ (row : Row). All (λ (term : ℕ × ℤ). term.0 < n) row.terms) rows.rows) (sym edges) rows.below in
     let columns_are = columns-weighted_factors rows.rows by.y x below in

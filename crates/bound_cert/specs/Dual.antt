@@ -34,10 +34,15 @@ reduced_cost rows by edge cost = by.d *ℤ pos cost -ℤ total (weighted_factors
 abbrev pub best_limit : ℤ → ℕ × ℕ → ℕ
 best_limit r limit = if int_le (pos 0) r then limit.1 else limit.0
 
--- the most that each edge's reduced cost comes to within its limits, from an edge on
+-- the most that an edge's reduced cost comes to within its limits
+abbrev pub edge_bound : Rows → Multipliers → ℕ → ℕ → ℕ × ℕ → ℤ
+edge_bound rows by edge cost limit =
+    reduced_cost rows by edge cost *ℤ pos (best_limit (reduced_cost rows by edge cost) limit)
+
+-- the same of each edge in order, from an edge on
 abbrev pub edge_bounds : Rows → Multipliers → ℕ → List ℕ → List (ℕ × ℕ) → List ℤ
 edge_bounds rows by edge (cost ∷ costs) (limit ∷ limits) =
-    (reduced_cost rows by edge cost *ℤ pos (best_limit (reduced_cost rows by edge cost) limit)) ∷ edge_bounds rows by (edge + 1) costs limits
+    edge_bound rows by edge cost limit ∷ edge_bounds rows by (edge + 1) costs limits
 edge_bounds rows by edge [] limits = []
 edge_bounds rows by edge (cost ∷ costs) [] = []
 

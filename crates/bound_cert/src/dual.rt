@@ -3,8 +3,8 @@
 ghost use Rattle.std.specs.Prelude.{◌≡◌, ◌↔◌, ℕ, ℤ, pos, ◌+ℤ◌, ◌-ℤ◌, ◌*ℤ◌, length, IsSome, IsNone, IfSome};
 ghost use Rattle.std.specs.Option.{SomeIff};
 ghost use Rattle.lin_rows.specs.Steps.{total, addition_steps, subtraction_steps, StaysInI128, LeavesI128};
-ghost use Rattle.bound_cert.specs.Dual.{dual, weighted_rights, weighted_terms, weighted_factors, best_limit};
-ghost use Rattle.bound_cert.specs.DualSteps.{dual_steps};
+ghost use Rattle.bound_cert.specs.Dual.{dual, weighted_rights, weighted_terms, weighted_factors, edge_bound, best_limit};
+ghost use Rattle.bound_cert.specs.DualSteps.{dual_steps, edge_steps};
 ghost use Rattle.bound_cert.specs.Fitting.{FitsRows};
 ghost use Rattle.bound_cert.specs.Law.{IsBound};
 
@@ -37,12 +37,27 @@ pub fn dual_bound(
     let mut sum = right_sides(rows.rows(), by.y())?;
     let limits = within.limits();
     for (edge, cost) in objective.costs().iter().enumerate() {
-        let start = by.d.checked_mul(i128::from(*cost))?;
-        let reduced = reduced_cost(rows.rows(), by.y(), edge, start)?;
-        let count = best_limit(reduced, limits[edge]);
-        sum = add_product(sum, reduced, i128::from(count))?;
+        sum = add_edge(sum, rows, by, edge, *cost, limits[edge])?;
     }
     Some(sum.div_euclid(by.d))
+}
+
+// `sum` and the most that the reduced cost of the edge comes to within its limits.
+fn add_edge(
+    sum: i128,
+    rows: &Rows,
+    by: &Multipliers,
+    edge: usize,
+    cost: u64,
+    limit: (u64, u64),
+) -> Option<i128>
+    requires { length rows.now.rows ≡ length by.now.y }
+    ensures { SomeIff result (StaysInI128 (edge_steps rows.now by.now edge sum cost limit)) (sum +ℤ edge_bound rows.now by.now edge cost limit) }
+{
+    let start = by.d.checked_mul(i128::from(cost))?;
+    let reduced = reduced_cost(rows.rows(), by.y(), edge, start)?;
+    let count = best_limit(reduced, limit);
+    add_product(sum, reduced, i128::from(count))
 }
 
 // The sum of multiplier times right side over the rows.
@@ -75,9 +90,10 @@ fn less_terms(terms: &[(u16, i128)], y: i128, edge: usize, start: i128) -> Optio
 {
     let mut left = start;
     for (named, factor) in terms {
-        if usize::from(*named) == edge {
-            left = subtract_product(left, y, *factor)?;
+        if usize::from(*named) != edge {
+            continue;
         }
+        left = subtract_product(left, y, *factor)?;
     }
     Some(left)
 }

@@ -21,8 +21,8 @@ fn each_takes(rows: &[Row], y: &[i128]) -> bool
     if rows.len() != y.len() {
         return false;
     }
-    for (row, y) in rows.iter().zip(y) {
-        if !takes(row.kind, *y) {
+    for (i, row) in rows.iter().enumerate() {
+        if !takes(row.kind, y[i]) {
             return false;
         }
     }

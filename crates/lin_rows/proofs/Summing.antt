@@ -9,8 +9,9 @@ use Rattle.std.proofs.lemmas.List.Elements.{All-nil}
 use Rattle.lin_rows.proofs.StepLists.{stays-cons}
 use Rattle.lin_rows.specs.Steps.{total, steps_by, StaysInI128}
 
-two : (y z : ℤ) (zs : List ℤ) → StaysInI128 (y ∷ z ∷ zs) ↔ (FitsSigned w128 y × FitsSigned w128 z × StaysInI128 zs)
-two y z zs =
+-- two steps and those after them
+pub stays-two : (y z : ℤ) (zs : List ℤ) → StaysInI128 (y ∷ z ∷ zs) ↔ (FitsSigned w128 y × FitsSigned w128 z × StaysInI128 zs)
+stays-two y z zs =
     let first = stays-cons y (z ∷ zs) in
     let second = stays-cons z zs in
     ( λ h. ((first.0 h).0, (second.0 (first.0 h).1).0, (second.0 (first.0 h).1).1)
@@ -43,7 +44,7 @@ Reached-start op start all fits = record { fits = fits; stays = (λ h. h, λ h. 
 -- the next number was taken
 pub Reached-next : {op : ℤ → ℤ → ℤ} {start : ℤ} {all : List ℤ} {sum : ℤ} {rest : List ℤ} {z : ℤ} → Reached op start all sum (z ∷ rest) → FitsSigned w128 z × FitsSigned w128 (op sum z) → Reached op start all (op sum z) rest
 Reached-next {op} {sum} {rest} {z} r both =
-    let step = two z (op sum z) (steps_by op (op sum z) rest) in
+    let step = stays-two z (op sum z) (steps_by op (op sum z) rest) in
     record {
       fits = both.1;
       stays = (λ k. (step.0 (r.stays.0 k)).2, λ k. r.stays.1 (step.1 (both.0, both.1, k)));
@@ -53,7 +54,7 @@ Reached-next {op} {sum} {rest} {z} r both =
 -- the next number cannot be taken
 pub Reached-stop : {op : ℤ → ℤ → ℤ} {start : ℤ} {all : List ℤ} {sum : ℤ} {rest : List ℤ} {z : ℤ} → Reached op start all sum (z ∷ rest) → ¬ (FitsSigned w128 z × FitsSigned w128 (op sum z)) → ¬ StaysInI128 (steps_by op start all)
 Reached-stop {op} {sum} {rest} {z} r fails k =
-    let step = (two z (op sum z) (steps_by op (op sum z) rest)).0 (r.stays.0 k) in
+    let step = (stays-two z (op sum z) (steps_by op (op sum z) rest)).0 (r.stays.0 k) in
     fails (step.0, step.1)
 
 -- all are taken
