@@ -1,5 +1,5 @@
 -- Weak duality.
-use Rattle.std.proofs.Common.{◌≡◌, ℕ, suc, ◌+◌, ◌*◌, ◌<◌, ◌≤◌, ◌/◌, Bool, true, false, List, [], ◌∷◌, length, ℤ, pos, negsuc, ◌+ℤ◌, ◌-ℤ◌, ◌*ℤ◌, ◌≤ℤ◌, arith, ap, sym, refl, ◌∙◌, subst, All, cond}
+use Rattle.std.proofs.Common.{◌≡◌, ℕ, suc, ◌+◌, ◌*◌, ◌<◌, ◌≤◌, Bool, true, false, List, [], ◌∷◌, length, ℤ, pos, negsuc, ◌+ℤ◌, ◌-ℤ◌, ◌*ℤ◌, ◌≤ℤ◌, arith, ap, sym, refl, ◌∙◌, subst, All, cond}
 use Rattle.std.specs.Prelude.{int_le}
 use Rattle.std.specs.Int.{int_div_euclid}
 use Rattle.std.specs.List.{AllZip}
@@ -8,19 +8,17 @@ use Rattle.std.proofs.lemmas.Nat.{le-div}
 use Rattle.std.proofs.lemmas.List.Elements.{All-head, All-tail}
 use Rattle.std.proofs.Math.Nat.{mul-le-mul_left}
 use lib.Signed.{≤ℤ_refl}
-use Rattle.lin_rows.specs.Meeting.{MeetsRow, Meets, Compares, left_side}
+use Rattle.lin_rows.specs.Meeting.{MeetsRow, Compares, left_side}
 use Rattle.lin_rows.specs.Steps.{total}
-use Rattle.lin_rows.specs.Vectors.{cost_by, cost, IsInBox}
-use Rattle.lin_rows.specs.declared.count_box.CountBox.{CountBox}
+use Rattle.lin_rows.specs.Vectors.{cost_by, cost}
 use Rattle.lin_rows.specs.declared.multipliers.Multipliers.{Multipliers}
-use Rattle.lin_rows.specs.declared.objective.Objective.{Objective}
 use Rattle.lin_rows.specs.declared.row.Row.{Row}
 use Rattle.lin_rows.specs.declared.row.RowKind.{RowKind}
 use Rattle.lin_rows.specs.declared.row.RowKind.TheVariants.{AtMost, Equal}
 use Rattle.lin_rows.specs.declared.row.Rows.{Rows}
-use Rattle.bound_cert.specs.Dual.{weighted_rights, weighted_factors, reduced_cost, best_limit, edge_bounds, undivided, dual}
-use Rattle.bound_cert.specs.Fitting.{Takes, FitsRows}
-use Rattle.bound_cert.specs.Law.{IsBound, HaveEntries, WeakDuality}
+use Rattle.bound_cert.specs.Dual.{weighted_rights, weighted_factors, reduced_cost, best_limit, edge_bounds, undivided}
+use Rattle.bound_cert.specs.Fitting.{Takes}
+use Rattle.bound_cert.specs.Law.{WeakDuality}
 use Rattle.bound_cert.proofs.Columns.{columns, weighted_lefts, columns-weighted_factors}
 use Rattle.bound_cert.proofs.Products.{plus-times, times-plus, times-times, times-mono}
 
@@ -39,8 +37,8 @@ weighted_lefts-le [] ys x met takes = ≤ℤ_refl (pos 0)
 weighted_lefts-le (row ∷ rows) [] x met takes = absurd takes
 weighted_lefts-le (row ∷ rows) (y ∷ ys) x met takes =
     plus-le (y *ℤ left_side row.terms x) (y *ℤ row.right) (total (weighted_lefts x rows ys)) (total (weighted_rights rows ys))
-        (row-le row.kind y (left_side row.terms x) row.right (All-head (MeetsRow x) row rows met) takes.0)
-        (weighted_lefts-le rows ys x (All-tail (MeetsRow x) row rows met) takes.1)
+    (row-le row.kind y (left_side row.terms x) row.right (All-head (MeetsRow x) row rows met) takes.0)
+    (weighted_lefts-le rows ys x (All-tail (MeetsRow x) row rows met) takes.1)
 
 -- ---- the edges
 
@@ -75,9 +73,9 @@ edges-le rows by e (c ∷ cs) (limit ∷ limits) (n ∷ ns) same within =
     let whole : (by.d *ℤ pos c) *ℤ pos n ≡ r *ℤ pos n +ℤ taken *ℤ pos n = ap (λ z. z *ℤ pos n) (back (by.d *ℤ pos c) taken) ∙ plus-times r taken (pos n) in
     let split : by.d *ℤ pos (c * n + cost_by cs ns) ≡ (by.d *ℤ pos c) *ℤ pos n +ℤ by.d *ℤ pos (cost_by cs ns) = times-plus by.d (pos (c * n)) (pos (cost_by cs ns)) ∙ ap (λ z. z +ℤ by.d *ℤ pos (cost_by cs ns)) (sym (times-times by.d (pos c) (pos n))) in
     subst (λ z. z ≤ℤ (total (edge_bounds rows by e (c ∷ cs) (limit ∷ limits)) +ℤ columns (λ k. total (weighted_factors k rows.rows by.y)) e (n ∷ ns))) (sym split)
-        (sum-le ((by.d *ℤ pos c) *ℤ pos n) (by.d *ℤ pos (cost_by cs ns)) (r *ℤ pos n) (taken *ℤ pos n) (r *ℤ pos (best_limit r limit)) (total (edge_bounds rows by (e + 1) cs limits)) (columns (λ k. total (weighted_factors k rows.rows by.y)) (e + 1) ns) whole
-            (best_limit-le r limit n within.0.0 within.0.1)
-            (edges-le rows by (e + 1) cs limits ns (omega (arith, same)) within.1))
+    (sum-le ((by.d *ℤ pos c) *ℤ pos n) (by.d *ℤ pos (cost_by cs ns)) (r *ℤ pos n) (taken *ℤ pos n) (r *ℤ pos (best_limit r limit)) (total (edge_bounds rows by (e + 1) cs limits)) (columns (λ k. total (weighted_factors k rows.rows by.y)) (e + 1) ns) whole
+    (best_limit-le r limit n within.0.0 within.0.1)
+    (edges-le rows by (e + 1) cs limits ns (omega (arith, same)) within.1))
 
 -- ---- the quotient
 
@@ -106,4 +104,4 @@ weak_duality_lem rows objective within by entries fits x inside met =
     let lefts = subst (λ z. z ≤ℤ total (weighted_rights rows.rows by.y)) (sym columns_are) (weighted_lefts-le rows.rows by.y x met fits.each) in
     let scaled = edges-le rows by 0 objective.costs within.limits x (entries.costs ∙ sym edges) inside in
     at_most_floor by.d (undivided rows objective within by) (cost objective x) fits.divisor
-        (swap-le (by.d *ℤ pos (cost objective x)) (total (edge_bounds rows by 0 objective.costs within.limits)) (columns (λ k. total (weighted_factors k rows.rows by.y)) 0 x) (total (weighted_rights rows.rows by.y)) scaled lefts)
+    (swap-le (by.d *ℤ pos (cost objective x)) (total (edge_bounds rows by 0 objective.costs within.limits)) (columns (λ k. total (weighted_factors k rows.rows by.y)) 0 x) (total (weighted_rights rows.rows by.y)) scaled lefts)

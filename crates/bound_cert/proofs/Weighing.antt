@@ -1,12 +1,11 @@
 -- The weighted terms of a row at an edge, term by term, and of the rows, row by row.
-use Rattle.std.proofs.Common.{◌≡◌, ◌↔◌, ℕ, ℤ, ◌-ℤ◌, ◌*ℤ◌, List, [], ◌∷◌, ◌++◌, cond, eqb, map, ap, FitsSigned, refl, sym, subst, ◌∙◌}
+use Rattle.std.proofs.Common.{◌≡◌, ◌↔◌, ℕ, ℤ, ◌*ℤ◌, List, [], ◌∷◌, ◌++◌, cond, eqb, map, ap, FitsSigned, refl, sym, subst, ◌∙◌}
 use Rattle.std.specs.Int.{w128}
 use Rattle.std.specs.List.{filter, fold}
 use Rattle.std.proofs.lemmas.Bool.{eq-eqb}
-use Rattle.std.proofs.lemmas.List.Elements.{All-nil}
-use Rattle.lin_rows.specs.Steps.{total, steps_by, StaysInI128}
+use Rattle.lin_rows.specs.Steps.{steps_by, StaysInI128}
 use Rattle.lin_rows.proofs.StepLists.{stays-append}
-use Rattle.lin_rows.proofs.Summing.{Reached, fold-minus}
+use Rattle.lin_rows.proofs.Summing.{Reached}
 use Rattle.bound_cert.specs.Dual.{weighted_terms}
 
 -- a term that names the edge

@@ -2,7 +2,6 @@
 use Rattle.std.specs.Prelude.{ℤ, pos, ◌≤ℤ◌}
 use Rattle.std.specs.List.{AllZip}
 use Rattle.lin_rows.specs.declared.multipliers.Multipliers.{Multipliers}
-use Rattle.lin_rows.specs.declared.row.Row.{Row}
 use Rattle.lin_rows.specs.declared.row.RowKind.{RowKind}
 use Rattle.lin_rows.specs.declared.row.RowKind.TheVariants.{AtMost, Equal}
 use Rattle.lin_rows.specs.declared.row.Rows.{Rows}

@@ -6,5 +6,4 @@ ghost use Rattle.bound_cert.specs.Law.{WeakDuality};
 /// at most their right sides are not negative, every vector in the box that meets the rows costs at most the dual value.
 pub fn weak_duality()
     ensures { WeakDuality }
-{
-}
+{}

@@ -1,6 +1,5 @@
 -- Rows that are tested one after another.
-use Rattle.std.proofs.Common.{◌↔◌, ℕ, ℤ, List, [], ◌∷◌, Bool, true, false, ◌&&◌, IsTrue, All, FitsSigned, refl}
-use Rattle.std.specs.Int.{w128}
+use Rattle.std.proofs.Common.{◌↔◌, ℕ, ℤ, List, [], ◌∷◌, Bool, true, false, ◌&&◌, IsTrue, All, refl}
 use Rattle.std.specs.List.{flat_map}
 use Rattle.std.proofs.lemmas.Bool.{false≢true}
 use Rattle.std.proofs.lemmas.List.Elements.{All-nil, All-cons, All-head, All-tail}
@@ -8,7 +7,7 @@ use Rattle.lin_rows.specs.declared.row.Row.{Row}
 use Rattle.lin_rows.specs.declared.row.Rows.{Rows}
 use Rattle.lin_rows.specs.Steps.{StaysInI128}
 use Rattle.lin_rows.specs.Meeting.{MeetsRow, Meets, left_side_steps, meeting_steps}
-use Rattle.lin_rows.proofs.StepLists.{stays-append}
+use Rattle.lin_rows.proofs.StepLists.{stays-nil, stays-append}
 
 -- the steps of some rows
 abbrev pub rows_steps : List ℕ → List Row → List ℤ
@@ -44,4 +43,4 @@ Tested-stop rows x met row rest tested fails h =
 -- all rows are tested
 pub Tested-all : (rows : Rows) (x : List ℕ) (met : Bool) → Tested x rows.rows met [] → StaysInI128 (meeting_steps rows x) × (IsTrue met ↔ Meets rows x)
 Tested-all rows x met tested =
-    (tested.stays.1 (All-nil (FitsSigned w128)), (λ h. tested.meets.1 (h, All-nil (MeetsRow x)), λ h. (tested.meets.0 h).0))
+    (tested.stays.1 stays-nil, (λ h. tested.meets.1 (h, All-nil (MeetsRow x)), λ h. (tested.meets.0 h).0))

@@ -8,12 +8,18 @@ use Rattle.lin_rows.specs.Steps.{StaysInI128, LeavesI128}
 
 -- the first step, and those after it
 pub stays-cons : (z : ℤ) (zs : List ℤ) → StaysInI128 (z ∷ zs) ↔ (FitsSigned w128 z × StaysInI128 zs)
-stays-cons z zs =
-    (λ h. (All-head (FitsSigned w128) z zs h, All-tail (FitsSigned w128) z zs h), λ h. All-cons (FitsSigned w128) z zs h.0 h.1)
+stays-cons z zs = (
+  λ h. (All-head (FitsSigned w128) z zs h.each, record { each = All-tail (FitsSigned w128) z zs h.each }),
+  λ h. record { each = All-cons (FitsSigned w128) z zs h.0 h.1.each },
+)
+
+-- no steps
+pub stays-nil : StaysInI128 []
+stays-nil = record { each = All-nil (FitsSigned w128) }
 
 -- some steps, and those after them
 pub stays-append : (ys zs : List ℤ) → StaysInI128 (ys ++ zs) ↔ (StaysInI128 ys × StaysInI128 zs)
-stays-append [] zs = (λ h. (All-nil (FitsSigned w128), h), λ h. h.1)
+stays-append [] zs = (λ h. (stays-nil, h), λ h. h.1)
 stays-append (y ∷ ys) zs =
     let first = stays-cons y (ys ++ zs) in
     let own = stays-cons y ys in
@@ -30,7 +36,7 @@ later z zs out = (suc out.0, out.1, omega (arith, out.2), out.3, out.4)
 
 -- every step stays in i128, or some step leaves it
 pub stays_or_leaves : (zs : List ℤ) → StaysInI128 zs ⊎ LeavesI128 zs
-stays_or_leaves [] = inl (All-nil (FitsSigned w128))
+stays_or_leaves [] = inl stays-nil
 stays_or_leaves (z ∷ zs) =
     ⊎_elim
     (λ fits. ⊎_elim (λ stays. inl ((stays-cons z zs).1 (fits, stays))) (λ out. inr (later z zs out)) (stays_or_leaves zs))
@@ -39,7 +45,7 @@ stays_or_leaves (z ∷ zs) =
 
 -- not both
 pub stays-leaves : (zs : List ℤ) → StaysInI128 zs → ¬ LeavesI128 zs
-stays-leaves zs stays out = out.4 (subst (FitsSigned w128) out.3 (stays out.0 out.1 out.2))
+stays-leaves zs stays out = out.4 (subst (FitsSigned w128) out.3 (stays.each out.0 out.1 out.2))
 
 -- what an answer says of the steps: there is one exactly where every step stays in i128, and none exactly where a step leaves it
 pub record Tells {T : Type 0} (answer : Option T) (steps : List ℤ) : Type 0 where

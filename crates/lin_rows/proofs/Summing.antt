@@ -1,21 +1,20 @@
 -- A number into which others are taken one by one, and that stops where a step leaves i128.
-use Rattle.std.proofs.Common.{◌≡◌, ◌↔◌, ℤ, ◌+ℤ◌, ◌-ℤ◌, List, [], ◌∷◌, ◌++◌, FitsSigned, refl, sym, ap, ◌∙◌, arith, Option, Some, None}
+use Rattle.std.proofs.Common.{◌≡◌, ◌↔◌, ℤ, ◌+ℤ◌, ◌-ℤ◌, List, [], ◌∷◌, FitsSigned, refl, sym, ◌∙◌, arith, Option, Some, None}
 use lib.IntN.{+ℤ_assoc, +ℤ_idr}
 use Rattle.std.specs.Int.{w128}
 use Rattle.std.specs.List.{fold}
 use Rattle.std.specs.Option.{SomeIff}
 use Rattle.std.proofs.lemmas.Int.{ints}
-use Rattle.std.proofs.lemmas.List.Elements.{All-nil}
-use Rattle.lin_rows.proofs.StepLists.{stays-cons}
+use Rattle.lin_rows.proofs.StepLists.{stays-nil, stays-cons}
 use Rattle.lin_rows.specs.Steps.{total, steps_by, StaysInI128}
 
 -- two steps and those after them
 pub stays-two : (y z : ℤ) (zs : List ℤ) → StaysInI128 (y ∷ z ∷ zs) ↔ (FitsSigned w128 y × FitsSigned w128 z × StaysInI128 zs)
 stays-two y z zs =
     let first = stays-cons y (z ∷ zs) in
-    let second = stays-cons z zs in
-    ( λ h. ((first.0 h).0, (second.0 (first.0 h).1).0, (second.0 (first.0 h).1).1)
-    , λ h. first.1 (h.0, second.1 (h.1, h.2))
+    let second = stays-cons z zs in (
+      λ h. ((first.0 h).0, (second.0 (first.0 h).1).0, (second.0 (first.0 h).1).1),
+      λ h. first.1 (h.0, second.1 (h.1, h.2)),
     )
 
 -- a second step that is made exactly where it fits, after a first one that fits
@@ -59,4 +58,4 @@ Reached-stop {op} {sum} {rest} {z} r fails k =
 
 -- all are taken
 pub Reached-all : {op : ℤ → ℤ → ℤ} {start : ℤ} {all : List ℤ} {sum : ℤ} → Reached op start all sum [] → StaysInI128 (steps_by op start all) × (sum ≡ fold op start all)
-Reached-all r = (r.stays.1 (All-nil (FitsSigned w128)), sym r.whole)
+Reached-all r = (r.stays.1 stays-nil, sym r.whole)

@@ -24,8 +24,8 @@ abbrev pub subtraction_steps : ℤ → List ℤ → List ℤ
 subtraction_steps r zs = steps_by (λ rest z. rest -ℤ z) r zs
 
 -- every step lies in i128
-abbrev pub StaysInI128 : List ℤ → Type 0
-StaysInI128 steps = All (λ z. FitsSigned w128 z) steps
+pub record StaysInI128 (steps : List ℤ) : Type 0 where
+  pub each : All (λ z. FitsSigned w128 z) steps
 
 -- some step lies outside i128
 abbrev pub LeavesI128 : List ℤ → Type 0

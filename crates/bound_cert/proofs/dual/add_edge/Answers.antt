@@ -1,7 +1,6 @@
-use Rattle.std.proofs.Common.{rules, ◌+◌, ◌≤◌, length, pos, ◌-ℤ◌, ◌*ℤ◌, FitsSigned, subst, sym, drop, ap, ◌∙◌, arith, ◌≡◌}
+use Rattle.std.proofs.Common.{rules, pos, FitsSigned, ap, ◌∙◌}
 use Rattle.std.specs.Int.{w128}
 use Rattle.std.proofs.lemmas.Int.{to_z-of_z}
-use Rattle.bound_cert.specs.Dual.{best_limit}
 use Rattle.bound_cert.proofs.Edges.{edge-parts, SomeIff-same}
 use Rattle.bound_cert.proofs.dual.add_edge.Goals as goal
 

@@ -1,4 +1,4 @@
-use Rattle.std.proofs.Common.{rules, ◌+◌, ◌≤◌, length, slice_index_or, pos, ◌-ℤ◌, ◌*ℤ◌, FitsSigned, subst, sym, drop, ap, ◌∙◌, arith, ◌≡◌}
+use Rattle.std.proofs.Common.{rules, ◌+◌, slice_index_or, pos, ◌-ℤ◌, FitsSigned, subst, sym, drop, ◌∙◌, ◌≡◌}
 use Rattle.std.specs.Int.{w128}
 use Rattle.std.proofs.lemmas.Int.{to_z-of_z}
 use Rattle.std.proofs.lemmas.List.{at_drop_more, at_drop_all}
@@ -18,7 +18,7 @@ returns-in_err-left c =
     let fails = simp to_z-of_z at c.in_err-left.ensures in
     let named : term.0 ≡ c.args.edge = search rules in
     let more = at_drop_more (weighted_terms c.args.edge c.args.y) c.args.terms.now i (0, pos 0) c.loop-named-test.true
-            ∙ weighted_terms-named c.args.edge c.args.y term (drop (i + 1) c.args.terms.now) named in
+    ∙ weighted_terms-named c.args.edge c.args.y term (drop (i + 1) c.args.terms.now) named in
     let reached = rw more at (simp to_z-of_z at c.loop-named.invariant) in
     rw c.from_residual.ensures (Reached-stop reached fails)
 
@@ -33,7 +33,7 @@ loop-named-preserved c =
     let taken = simp to_z-of_z at c.in_ok-left.ensures in
     let named : term.0 ≡ c.args.edge = search rules in
     let more = at_drop_more (weighted_terms c.args.edge c.args.y) c.args.terms.now i (0, pos 0) c.loop-named-test.true
-            ∙ weighted_terms-named c.args.edge c.args.y term (drop (i + 1) c.args.terms.now) named in
+    ∙ weighted_terms-named c.args.edge c.args.y term (drop (i + 1) c.args.terms.now) named in
     let reached = rw more at (simp to_z-of_z at c.loop-named.invariant) in
     let next = subst (λ r. Reached (λ rest z. rest -ℤ z) c.args.start (weighted_terms c.args.edge c.args.y c.args.terms.now) r (weighted_terms c.args.edge c.args.y (drop (i + 1) c.args.terms.now))) (sym taken.1) (Reached-next reached taken.0) in
     let fits_next = next.fits in

@@ -1,4 +1,4 @@
-use Rattle.std.proofs.Common.{rules, ◌+◌, ◌≤◌, length, slice_index_or, pos, ◌-ℤ◌, ◌*ℤ◌, FitsSigned, subst, sym, drop, ap, ◌∙◌, arith, ◌≡◌}
+use Rattle.std.proofs.Common.{rules, ◌+◌, slice_index_or, pos, ◌-ℤ◌, FitsSigned, subst, sym, drop, ◌∙◌, arith}
 use Rattle.std.specs.Int.{w128}
 use Rattle.std.proofs.lemmas.Int.{to_z-of_z}
 use Rattle.std.proofs.lemmas.List.{drop_more, drop_all}

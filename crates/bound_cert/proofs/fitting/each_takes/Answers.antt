@@ -1,4 +1,4 @@
-use Rattle.std.proofs.Common.{rules, ℤ}
+use Rattle.std.proofs.Common.{ℤ}
 use Rattle.std.proofs.lemmas.Bool.{false≢true}
 use Rattle.lin_rows.specs.declared.row.Row.{Row}
 use Rattle.bound_cert.specs.Fitting.{Takes}
