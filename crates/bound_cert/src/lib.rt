@@ -9,3 +9,6 @@ mod law;
 pub use dual::dual_bound;
 pub use fitting::by_fits;
 pub use law::weak_duality;
+
+#[cfg(test)]
+mod tests;
