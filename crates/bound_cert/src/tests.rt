@@ -123,7 +123,7 @@ fn a_bound_below_zero_is_rounded_down(rt: HostRuntime) -> Result<(), Fail> {
 #[test]
 fn edges_without_rows_count_at_their_greatest(rt: HostRuntime) -> Result<(), Fail> {
     let alloc = rt.alloc();
-    let free = case(
+    let free = set_up(
         alloc,
         Vec::new(alloc),
         [5, 0, 2].as_slice(),
@@ -133,14 +133,14 @@ fn edges_without_rows_count_at_their_greatest(rt: HostRuntime) -> Result<(), Fai
     assert_eq!(rt; bound(alloc, &free, 10, [].as_slice())?, Some(26));
     let empty = set_up(alloc, Vec::new(alloc), [].as_slice(), [].as_slice())?;
     assert_eq!(rt; bound(alloc, &empty, MOST, [].as_slice())?, Some(0));
-    let most = case(
+    let most = set_up(
         alloc,
         Vec::new(alloc),
         [u64::MAX].as_slice(),
         [(0, u64::MAX)].as_slice(),
     )?;
     assert_eq!(rt; bound(alloc, &most, 1, [].as_slice())?, None);
-    let half = case(
+    let half = set_up(
         alloc,
         Vec::new(alloc),
         [1 << 63].as_slice(),
