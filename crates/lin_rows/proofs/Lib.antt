@@ -1,0 +1,4 @@
+pub mod Naming
+pub mod RowsTested
+pub mod StepLists
+pub mod Summing

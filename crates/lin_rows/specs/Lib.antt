@@ -1,0 +1,4 @@
+pub mod Meeting
+pub mod Names
+pub mod Steps
+pub mod Vectors
