@@ -12,3 +12,4 @@ pub mod Reads
 pub mod Names
 pub mod Scopes
 pub mod Straight
+pub mod Form

@@ -24,10 +24,9 @@ impl From<AllocError> for Fault {
 /// Why a text has no tree.
 #[derive(Clone, Copy, Debug, PartialEq, Eq)]
 pub enum ParseFault {
-    /// No tokens of the grammar's texts go on as these do at the place `at`, or none of them have a tree that is low
-    /// enough.
+    /// The tokens spell no tree that is low enough. The place is an offset in the text.
     Syntax { at: u32 },
-    /// The tree would be too high at the place `at`.
+    /// The tree would be too high. It is not answered yet.
     Depth { at: u32 },
     /// Memory was wanting.
     NoMemory,

@@ -54,9 +54,9 @@ fn refusal(text: &[u8], tokens: &[Token], fault: Fault) -> ParseFault
     }
 }
 
-/// The tree that the tokens of the text spell (C11 6.5 to 6.9), if its height is at most 128. Every token lies within
-/// the text. A refusal other than want of memory is `Syntax` today, at the furthest token that was looked at, or at the
-/// end of the text.
+/// The tree that the tokens of the text spell (C11 6.5 to 6.9), if its height is at most 128. It is today that of one
+/// function. Every refusal but want of memory is `Syntax`, at the furthest token that was looked at, or at the end of
+/// the text.
 pub fn parse(alloc: Global, text: &[u8], tokens: &[Token]) -> Result<Unit, ParseFault>
     requires short { length text.now < 2 ^ 32 }
     requires within { All (IsWithin text.now) tokens.now }
@@ -64,7 +64,9 @@ pub fn parse(alloc: Global, text: &[u8], tokens: &[Token]) -> Result<Unit, Parse
     ensures spelled { IfOk result (λ unit. Spells text.now tokens.now unit) }
     ensures low { IfOk result (λ unit. unit_height unit ≤ 128) }
     // What is spelled and low enough is read, unless memory is wanting.
-    ensures read { (unit : Tree) → Spells text.now tokens.now unit → unit_height unit ≤ 128 → Gives unit result }
+    ensures read {
+        (unit : Tree) → Spells text.now tokens.now unit → unit_height unit ≤ 128 → Gives unit result
+    }
     ensures refused { IfErr result (IsRefusal text.now tokens.now) }
 {
     let mut reader = Reader::new(alloc, text, tokens);
@@ -76,5 +78,8 @@ pub fn parse(alloc: Global, text: &[u8], tokens: &[Token]) -> Result<Unit, Parse
 
 /// The law that the tokens of a text spell at most one tree, whatever its height.
 pub fn one_tree()
-    ensures { (text : List ℕ) (tokens : List Token) (a b : Tree) → Spells text tokens a → Spells text tokens b → a ≡ b }
+    ensures {
+        (text : List ℕ) (tokens : List Token) (a b : Tree)
+            → Spells text tokens a → Spells text tokens b → a ≡ b
+    }
 {}

@@ -83,8 +83,14 @@ impl<'a> Reader<'a> {
         ensures { IfOk result (λ x. x ≡ spot (spec.head self.now)) }
     {
         let first = &self.rest[0];
-        let name = Name::from_slice(self.alloc, &self.text[first.from as usize..first.to as usize])?;
-        Ok(Spot { name, at: first.from })
+        let name = Name::from_slice(
+            self.alloc,
+            &self.text[first.from as usize..first.to as usize],
+        )?;
+        Ok(Spot {
+            name,
+            at: first.from,
+        })
     }
 
     /// The next token as an integer constant.

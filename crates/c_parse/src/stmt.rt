@@ -33,20 +33,34 @@ fn only(alloc: Global, stmt: RawStmt, height: usize) -> Result<MeasuredList, Fau
 fn declared(alloc: Global, ty: Ty, spot: Spot, value: MeasuredOption) -> Result<MeasuredList, Fault>
     requires { value.height < 1000 }
     ensures low { IfOk result (λ t. t.height ≡ value.height + 1) }
-    ensures reads { Reads (λ t. t.list) (Ok (RawStmt.Declare false ty spot (RawShape.Scalar value.expr) ∷ [], [])) result [] }
+    ensures reads {
+        let stmt = RawStmt.Declare false ty spot (RawShape.Scalar value.expr) in
+            Reads (λ t. t.list) (Ok (stmt ∷ [], [])) result []
+    }
 {
     let height = value.height + 1;
-    only(alloc, RawStmt::Declare(false, ty, spot, RawShape::Scalar(value.expr)), height)
+    only(
+        alloc,
+        RawStmt::Declare(false, ty, spot, RawShape::Scalar(value.expr)),
+        height,
+    )
 }
 
 #[tactic(auto, using(crate::proofs::Layers::stmt_layers))]
 fn assigned(alloc: Global, spot: Spot, a: MeasuredExpr) -> Result<MeasuredList, Fault>
     requires { a.height < 1000 }
     ensures low { IfOk result (λ t. t.height ≡ max 1 a.height + 1) }
-    ensures reads { Reads (λ t. t.list) (Ok (RawStmt.Assign (RawPlace.Scalar spot) None a.expr ∷ [], [])) result [] }
+    ensures reads {
+        let stmt = RawStmt.Assign (RawPlace.Scalar spot) None a.expr in
+            Reads (λ t. t.list) (Ok (stmt ∷ [], [])) result []
+    }
 {
     let height = a.height.max(1) + 1;
-    only(alloc, RawStmt::Assign(RawPlace::Scalar(spot), None, a.expr), height)
+    only(
+        alloc,
+        RawStmt::Assign(RawPlace::Scalar(spot), None, a.expr),
+        height,
+    )
 }
 
 #[tactic(auto, using(crate::proofs::Layers::stmt_layers))]
@@ -60,7 +74,12 @@ fn returning(alloc: Global, at: u32, value: MeasuredOption) -> Result<MeasuredLi
 }
 
 #[tactic(auto, using(crate::proofs::Layers::stmt_layers))]
-fn chosen(alloc: Global, a: MeasuredExpr, xs: MeasuredList, ys: MeasuredList) -> Result<MeasuredList, Fault>
+fn chosen(
+    alloc: Global,
+    a: MeasuredExpr,
+    xs: MeasuredList,
+    ys: MeasuredList,
+) -> Result<MeasuredList, Fault>
     requires a { a.height < 1000 }
     requires x { xs.height < 1000 }
     requires y { ys.height < 1000 }
@@ -224,7 +243,9 @@ impl<'a> Reader<'a> {
     fn choice(&mut self, room: usize) -> Result<MeasuredList, Fault>
         requires { room < 999 }
         ensures low { IfOk result (λ t. t.height ≤ room + 1) }
-        ensures reads { Reads (λ t. t.list) (spec.choice (expr room) (spec.statement room Body) self.old) result self.new }
+        ensures reads {
+            Reads (λ t. t.list) (spec.choice (expr room) (spec.statement room Body) self.old) result self.new
+        }
     {
         self.expect(Symbol::If)?;
         let a = self.condition(room)?;
@@ -239,7 +260,9 @@ impl<'a> Reader<'a> {
     fn other(&mut self, room: usize) -> Result<MeasuredList, Fault>
         requires { room < 999 }
         ensures low { IfOk result (λ t. t.height ≤ room) }
-        ensures reads { Reads (λ t. t.list) (spec.other (spec.statement room Body) self.old) result self.new }
+        ensures reads {
+            Reads (λ t. t.list) (spec.other (spec.statement room Body) self.old) result self.new
+        }
     {
         if !self.sees(Symbol::Else) {
             return Ok(nothing(self.alloc()));
@@ -269,7 +292,9 @@ impl<'a> Reader<'a> {
     pub fn block(&mut self, room: usize) -> Result<MeasuredList, Fault>
         requires { room < 1000 }
         ensures low { IfOk result (λ t. t.height ≤ room) }
-        ensures reads { Reads (λ t. t.list) (spec.block (spec.statement room Item) self.old) result self.new }
+        ensures reads {
+            Reads (λ t. t.list) (spec.block (spec.statement room Item) self.old) result self.new
+        }
     {
         self.expect(Symbol::LeftBrace)?;
         let mut list = Items::new(self.alloc());

@@ -82,8 +82,14 @@ pub fn constant_of(kind: Kind) -> (Ty, u32)
     ensures value { result.1 ≡ spec.value_of kind }
 {
     match kind {
-        Kind::Number { unsigned: true, value } => (Ty::Unsigned, value),
-        Kind::Number { unsigned: false, value } => (Ty::Int, value),
+        Kind::Number {
+            unsigned: true,
+            value,
+        } => (Ty::Unsigned, value),
+        Kind::Number {
+            unsigned: false,
+            value,
+        } => (Ty::Int, value),
         _ => (Ty::Int, 0),
     }
 }
