@@ -11,3 +11,4 @@ pub mod Operands
 pub mod Reaching
 pub mod Sizes
 pub mod Sorts
+pub mod Spaces

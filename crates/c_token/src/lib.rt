@@ -18,3 +18,6 @@ pub use fault::TokenFault;
 pub use law::{in_order, one_reading, separated};
 pub use scanner::tokens;
 pub use spacing::is_plainly_spaced;
+
+#[cfg(test)]
+mod tests;

@@ -1,6 +1,6 @@
 //! The scanner over a text.
 
-ghost use Rattle.std.specs.Prelude.{◌≡◌, ◌<◌, ◌≤◌, ◌^◌, ◌↔◌, ℕ, List, length, nat_le, IsOkAnd, IfOk, OnOk, IfErr, MatchResult};
+ghost use Rattle.std.specs.Prelude.{◌≡◌, ◌<◌, ◌≤◌, ◌^◌, ◌↔◌, ◌++◌, ℕ, List, length, nat_le, IsOkAnd, IfOk, OnOk, IfErr, MatchResult};
 ghost use Rattle.std.specs.Option.{option_to_list};
 ghost use Rattle.c_tree.specs.Lexing.{Reaches, Lexes};
 ghost use Rattle.c_token.specs.Pieces as spec;
@@ -68,6 +68,16 @@ fn flaw_at(flaw: Flaw, at: u32) -> TokenFault
     }
 }
 
+fn push(tokens: &mut Vec<Token>, token: Option<Token>) -> Result<(), TokenFault>
+    ensures ok { OnOk result (tokens.new.items ≡ tokens.old.items ++ option_to_list token) }
+    ensures err { IfErr result (λ fault. fault ≡ TokenFault.NoMemory) }
+{
+    if let Some(token) = token {
+        tokens.push(token)?;
+    }
+    Ok(())
+}
+
 /// The tokens of a text, or what it has in place of them.
 fn scan(alloc: Global, text: &[u8]) -> Result<Vec<Token>, TokenFault>
     requires { length text.now < 2 ^ 32 }
@@ -76,9 +86,8 @@ fn scan(alloc: Global, text: &[u8]) -> Result<Vec<Token>, TokenFault>
     let mut scanner = Scanner { text, at: 0 };
     let mut tokens = Vec::new(alloc);
     while !scanner.is_at_end() {
-        if let Some(token) = scanner.read()? {
-            tokens.push(token)?;
-        }
+        let token = scanner.read()?;
+        push(&mut tokens, token)?;
     }
     Ok(tokens)
 }
