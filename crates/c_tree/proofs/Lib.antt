@@ -14,3 +14,6 @@ pub mod StmtsFind
 pub mod Begun
 pub mod SpanLaws
 pub mod SpanLayers
+pub mod Arithmetic
+pub mod Traces
+pub mod WorkedWellFormed

@@ -1,8 +1,10 @@
 -- The blocks of a function, numbered from 0 by the place of their first token. A block is a maximal run of simple statements in one list;
 -- or one controlling expression; one initialiser or step of a `for`; one call; one `break`, `continue` or `return`. This project's own.
-use Rattle.std.specs.Prelude.{ℕ, ◌+◌, List, [], ◌∷◌, Bool, true, false}
+use Rattle.std.specs.Prelude.{◌<◌, Option, Some, None, slice_get, ℕ, ◌+◌, List, [], ◌∷◌, Bool, true, false}
 use Rattle.c_tree.specs.declared.tree.Stmt.{Stmt, Row_of-Stmt, end_of-Stmt, more_of-Stmt, Held-Stmt-For-1, None', Some'}
 use Rattle.c_tree.specs.declared.tree.Stmt.TheVariants.{Empty, Scalar, Array, Assign, Call, Break, Continue, Return, If', While', Do', For', Group'}
+use Rattle.c_tree.specs.declared.program.BlockName.{BlockName}
+use Rattle.c_tree.specs.declared.program.Func.{Func}
 
 -- a simple statement: an empty one, a declaration without a call, or an assignment
 abbrev pub is_simple : Stmt → Bool
@@ -46,3 +48,17 @@ unfoldable mutual
 abbrev pub list_blocks : List Stmt → Bool → ℕ
 list_blocks [] run = 0
 list_blocks (s ∷ rest) run = blocks s run + list_blocks rest (is_simple s)
+
+-- ---- the blocks of a program
+
+abbrev pub block_count : Option Func → ℕ
+block_count None = 0
+block_count (Some f) = list_blocks f.body false
+
+-- a block of a function of the program
+abbrev pub IsBlockOf : List Func → BlockName → Type 0
+IsBlockOf fs b = b.number < block_count (slice_get fs b.func)
+
+abbrev pub AreBlocksOf : List Func → List BlockName → Type 0
+AreBlocksOf fs [] = Unit {0}
+AreBlocksOf fs (b ∷ bs) = IsBlockOf fs b × AreBlocksOf fs bs

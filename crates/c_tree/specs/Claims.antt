@@ -1,9 +1,11 @@
 -- The cost of a run, and the three claims about all runs. This project's own.
-use Rattle.std.specs.Prelude.{◌≡◌, ◌≤◌, ℕ, IsTrue, List, slice_get, option_and_then, unwrap_or, sum_by}
+use Rattle.std.specs.Prelude.{◌≡◌, ◌≤◌, ℕ, false, IsTrue, List, [], ◌∷◌, length, slice_get, option_and_then, unwrap_or, sum_by}
 use Rattle.c_tree.specs.declared.program.BlockName.{BlockName}
+use Rattle.c_tree.specs.declared.program.Func.{Func}
 use Rattle.c_tree.specs.declared.program.Program.{Program}
 use Rattle.c_tree.specs.declared.program.Costs.{Costs}
 use Rattle.c_tree.specs.declared.program.Input.{Input}
+use Rattle.c_tree.specs.Blocks.{list_blocks}
 use Rattle.c_tree.specs.Runs.{Ended, fits, run}
 
 -- the table's cost of a block
@@ -13,6 +15,17 @@ block_cost t b = unwrap_or (option_and_then (λ row. slice_get row b.number) (sl
 -- the sum of the table's costs over a trace
 abbrev pub cost : Costs → List BlockName → ℕ
 cost t = sum_by (block_cost t)
+
+-- a number for each block of a function, for each function in order
+abbrev pub AreRowsOf : List Func → List (List ℕ) → Type 0
+AreRowsOf [] [] = Unit {0}
+AreRowsOf [] (row ∷ rows) = ⊥
+AreRowsOf (f ∷ fs) [] = ⊥
+AreRowsOf (f ∷ fs) (row ∷ rows) = (length row ≡ list_blocks f.body false) × AreRowsOf fs rows
+
+-- costs of this program
+pub record AreCostsOf (p : Program) (t : Costs) : Type 0 where
+  pub rows : AreRowsOf p.funcs t.by_func
 
 -- each run of a fitting input that ends costs at most b
 pub record Above (p : Program) (t : Costs) (b : ℕ) : Type 0 where

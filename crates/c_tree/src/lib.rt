@@ -6,6 +6,8 @@ pub mod laws;
 mod name;
 mod no_memory;
 mod program;
+#[cfg(test)]
+mod tests;
 mod token;
 mod tree;
 mod unit;
