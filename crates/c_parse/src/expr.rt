@@ -75,10 +75,8 @@ impl<'a> Reader<'a> {
         requires few { room < 1000 }
         requires low { first.height ≤ room }
         ensures low { IfOk result (λ t. t.height ≤ room) }
-        ensures reads {
-            Reads (λ t. t.expr) (spec.climb (spec.expr (room - 1)) room room least first.expr self.old)
-                result self.new
-        }
+        ensures reads { Reads (λ t. t.expr) (spec.climb (spec.expr (room - 1)) room room least first.expr self.old)
+            result self.new }
     {
         let mut left = first;
         for _turn in 0..room {
@@ -111,9 +109,7 @@ impl<'a> Reader<'a> {
         requires few { room < 999 }
         requires low { left.height ≤ room }
         ensures low { IfOk result (λ t. t.height ≤ room + 1) }
-        ensures reads {
-            Reads (λ t. t.expr) (spec.operation (spec.expr room) op left.expr self.old) result self.new
-        }
+        ensures reads { Reads (λ t. t.expr) (spec.operation (spec.expr room) op left.expr self.old) result self.new }
     {
         self.take();
         let right = self.expr(room, level(op) + 1)?;

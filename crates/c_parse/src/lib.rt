@@ -20,3 +20,6 @@ pub use fault::ParseFault;
 pub use form_fault::FormFault;
 pub use parsing::{one_tree, parse};
 pub use read::read_form;
+
+#[cfg(test)]
+mod tests;

@@ -64,9 +64,7 @@ pub fn parse(alloc: Global, text: &[u8], tokens: &[Token]) -> Result<Unit, Parse
     ensures spelled { IfOk result (λ unit. Spells text.now tokens.now unit) }
     ensures low { IfOk result (λ unit. unit_height unit ≤ 128) }
     // What is spelled and low enough is read, unless memory is wanting.
-    ensures read {
-        (unit : Tree) → Spells text.now tokens.now unit → unit_height unit ≤ 128 → Gives unit result
-    }
+    ensures read { (unit : Tree) → Spells text.now tokens.now unit → unit_height unit ≤ 128 → Gives unit result }
     ensures refused { IfErr result (IsRefusal text.now tokens.now) }
 {
     let mut reader = Reader::new(alloc, text, tokens);
@@ -78,8 +76,6 @@ pub fn parse(alloc: Global, text: &[u8], tokens: &[Token]) -> Result<Unit, Parse
 
 /// The law that the tokens of a text spell at most one tree, whatever its height.
 pub fn one_tree()
-    ensures {
-        (text : List ℕ) (tokens : List Token) (a b : Tree)
-            → Spells text tokens a → Spells text tokens b → a ≡ b
-    }
+    ensures { (text : List ℕ) (tokens : List Token) (a b : Tree)
+        → Spells text tokens a → Spells text tokens b → a ≡ b }
 {}

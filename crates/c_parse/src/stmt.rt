@@ -33,10 +33,8 @@ fn only(alloc: Global, stmt: RawStmt, height: usize) -> Result<MeasuredList, Fau
 fn declared(alloc: Global, ty: Ty, spot: Spot, value: MeasuredOption) -> Result<MeasuredList, Fault>
     requires { value.height < 1000 }
     ensures low { IfOk result (λ t. t.height ≡ value.height + 1) }
-    ensures reads {
-        let stmt = RawStmt.Declare false ty spot (RawShape.Scalar value.expr) in
-            Reads (λ t. t.list) (Ok (stmt ∷ [], [])) result []
-    }
+    ensures reads { let stmt = RawStmt.Declare false ty spot (RawShape.Scalar value.expr) in
+        Reads (λ t. t.list) (Ok (stmt ∷ [], [])) result [] }
 {
     let height = value.height + 1;
     only(
@@ -50,10 +48,8 @@ fn declared(alloc: Global, ty: Ty, spot: Spot, value: MeasuredOption) -> Result<
 fn assigned(alloc: Global, spot: Spot, a: MeasuredExpr) -> Result<MeasuredList, Fault>
     requires { a.height < 1000 }
     ensures low { IfOk result (λ t. t.height ≡ max 1 a.height + 1) }
-    ensures reads {
-        let stmt = RawStmt.Assign (RawPlace.Scalar spot) None a.expr in
-            Reads (λ t. t.list) (Ok (stmt ∷ [], [])) result []
-    }
+    ensures reads { let stmt = RawStmt.Assign (RawPlace.Scalar spot) None a.expr in
+        Reads (λ t. t.list) (Ok (stmt ∷ [], [])) result [] }
 {
     let height = a.height.max(1) + 1;
     only(
@@ -243,9 +239,7 @@ impl<'a> Reader<'a> {
     fn choice(&mut self, room: usize) -> Result<MeasuredList, Fault>
         requires { room < 999 }
         ensures low { IfOk result (λ t. t.height ≤ room + 1) }
-        ensures reads {
-            Reads (λ t. t.list) (spec.choice (expr room) (spec.statement room Body) self.old) result self.new
-        }
+        ensures reads { Reads (λ t. t.list) (spec.choice (expr room) (spec.statement room Body) self.old) result self.new }
     {
         self.expect(Symbol::If)?;
         let a = self.condition(room)?;
@@ -260,9 +254,7 @@ impl<'a> Reader<'a> {
     fn other(&mut self, room: usize) -> Result<MeasuredList, Fault>
         requires { room < 999 }
         ensures low { IfOk result (λ t. t.height ≤ room) }
-        ensures reads {
-            Reads (λ t. t.list) (spec.other (spec.statement room Body) self.old) result self.new
-        }
+        ensures reads { Reads (λ t. t.list) (spec.other (spec.statement room Body) self.old) result self.new }
     {
         if !self.sees(Symbol::Else) {
             return Ok(nothing(self.alloc()));
@@ -292,9 +284,7 @@ impl<'a> Reader<'a> {
     pub fn block(&mut self, room: usize) -> Result<MeasuredList, Fault>
         requires { room < 1000 }
         ensures low { IfOk result (λ t. t.height ≤ room) }
-        ensures reads {
-            Reads (λ t. t.list) (spec.block (spec.statement room Item) self.old) result self.new
-        }
+        ensures reads { Reads (λ t. t.list) (spec.block (spec.statement room Item) self.old) result self.new }
     {
         self.expect(Symbol::LeftBrace)?;
         let mut list = Items::new(self.alloc());

@@ -20,8 +20,8 @@ use Rattle.c_tree.specs.Blocks.{is_simple, begun, blocks, row_blocks, list_block
 use Rattle.c_tree.specs.Statements.{Callee, Outcome, Ends, Undefined, OverBound, with_value, stored, after, then_do, block, entered, simple, return_value, exec, row_exec, list_exec}
 use Rattle.c_tree.specs.Runs.{Run, Ended, back, callee, run, run_of}
 use Rattle.c_tree.specs.Claims.{block_cost, cost, Above}
-use Rattle.c_parse.specs.Form.{SpellsProgram, main_returning}
-use Rattle.squeeze_top.specs.Dear.{dear, row_dear, list_dear, is_straight, row_straight, list_straight, entry_body, bound_of, ones}
+use Rattle.c_parse.specs.Straight.{is_straight, row_straight, list_straight, IsStraight}
+use Rattle.squeeze_top.specs.Dear.{dear, row_dear, list_dear, entry_body, bound_of, ones}
 
 -- the trace is no longer than d, and where something follows, it and k are no more than d
 abbrev pub Within : ℕ → ℕ → Outcome → Type 0
@@ -158,16 +158,10 @@ only_above gs f straight = record {
       omega (arith, within, cost_at_most (only gs f) u);
 }
 
--- ---- the form
+-- ---- what a program of the form has
 
--- a text that spells a program spells one of one function without loops and calls
-pub spelled_above : (text : List ℕ) (p : Program) → SpellsProgram text p → Above p (ones p) (bound_of p)
-unfolding is_straight
-spelled_above text p spelled =
-    subst (λ (q : Program). Above q (ones q) (bound_of q)) (sym spelled.made) (only_above [] (main_returning spelled.form.constant.value) refl)
+pub straight_above : (p : Program) (n : ℕ) → IsStraight p n → Above p (ones p) (bound_of p)
+straight_above p n is = subst (λ (q : Program). Above q (ones q) (bound_of q)) (sym is.only) (only_above [] is.function is.straight)
 
--- with few blocks
-pub spelled_small : (text : List ℕ) (p : Program) → SpellsProgram text p → list_blocks (entry_body p) false ≤ 1
-unfolding blocks
-spelled_small text p spelled =
-    subst (λ (q : Program). list_blocks (entry_body q) false ≤ 1) (sym spelled.made) (omega arith)
+pub straight_small : (p : Program) (n : ℕ) → IsStraight p n → list_blocks (entry_body p) false ≤ n
+straight_small p n is = subst (λ (q : Program). list_blocks (entry_body q) false ≤ n) (sym is.only) is.blocks

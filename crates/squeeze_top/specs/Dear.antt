@@ -1,5 +1,5 @@
 -- The bound of a function without loops and calls, by recursion over its tree, where each block costs 1.
-use Rattle.std.specs.Prelude.{◌≡◌, ℕ, zero, suc, ◌+◌, max, List, [], ◌∷◌, Bool, true, false, ◌&&◌, Option, Some, None, map, replicate, slice_get, option_and_then}
+use Rattle.std.specs.Prelude.{◌≡◌, ℕ, zero, suc, ◌+◌, max, List, [], ◌∷◌, Bool, false, Option, Some, None, map, replicate, slice_get, option_and_then}
 use Rattle.c_tree.specs.declared.tree.Stmt.{Stmt, Row_of-Stmt, end_of-Stmt, more_of-Stmt}
 use Rattle.c_tree.specs.declared.tree.Stmt.TheVariants.{Empty, Scalar, Array, Assign, Call, Break, Continue, Return, If', While', Do', For', Group'}
 use Rattle.c_tree.specs.declared.program.Func.{Func}
@@ -40,27 +40,6 @@ goes_on_at (x ∷ xs) run (suc i) = goes_on_at xs (is_simple x) i
 abbrev pub list_dear : List Stmt → Bool → ℕ → ℕ
 list_dear [] run k = k
 list_dear (s ∷ rest) run k = dear s run (list_dear rest (is_simple s) k)
-
-unfoldable mutual
-  -- a statement without loops, calls, `break` and `continue`
-  pub is_straight : Stmt → Bool
-  is_straight Empty = true
-  is_straight (Scalar l e) = true
-  is_straight (Array l es) = true
-  is_straight (Assign p op e) = true
-  is_straight (Return e) = true
-  is_straight (If' e a x b y) = row_straight x && row_straight y
-  is_straight (Group' a x) = row_straight x
-  is_straight _ = false
-
-  pub row_straight : {m : _} → Row_of-Stmt m → Bool
-  row_straight end_of-Stmt = true
-  row_straight (more_of-Stmt s rest) = is_straight s && row_straight rest
-
--- the same of a list
-abbrev pub list_straight : List Stmt → Bool
-list_straight [] = true
-list_straight (s ∷ rest) = is_straight s && list_straight rest
 
 abbrev pub body_of : Option Func → List Stmt
 body_of None = []

@@ -1,6 +1,6 @@
 //! What is found of the words and of the file.
 
-ghost use Rattle.std.specs.Prelude.{◌≡◌, ◌≢◌, ◌≤◌, ◌++◌, map, codes, decimal, IfOk, OnErr, IsErrOf, IsSome};
+ghost use Rattle.std.specs.Prelude.{◌≡◌, ◌≢◌, ◌≤◌, ◌++◌, length, map, codes, decimal, IfOk, OnErr, IsErrOf, IsSome};
 ghost use Rattle.wc_outside.specs.Causes.{Rose};
 ghost use Rattle.squeeze_top.specs.Verdicts.{Holds, HoldsOf, line_of};
 ghost use Rattle.squeeze_top.specs.Statuses.{status_of};
@@ -85,6 +85,7 @@ pub(crate) fn judge<S: Shelf>(alloc: Global, words: &[&str], shelf: &mut S) -> R
 
 // Judges the text of a file.
 fn judge_text(alloc: Global, text: &[u8]) -> Result<Verdict, Stop>
+    requires { length text.now ≤ 1048576 }
     ensures holds { IfOk result (λ verdict. HoldsOf verdict text.now) }
     ensures memory { OnErr result (result ≡ Err Stop.NoMemory) }
 {

@@ -1,13 +1,13 @@
 use Rattle.std.proofs.Common.{arith}
-use Rattle.squeeze_top.proofs.Within.{spelled_above, spelled_small}
+use Rattle.squeeze_top.proofs.Within.{straight_above, straight_small}
 use Rattle.squeeze_top.proofs.verdict.judge_text.Goals as goal
 
 pub bound_of-requires : goal.bound_of-requires
-bound_of-requires c = omega (arith, spelled_small c.args.text.now c.in-Ok.program c.in-Ok.ensures.found)
+bound_of-requires c = omega (arith, c.requires, straight_small c.in-Ok.program _ c.in-Ok.ensures.straight)
 
 pub returns-in-Ok-clause-holds : goal.returns-in-Ok-clause-holds
 returns-in-Ok-clause-holds c =
-    let above = spelled_above c.args.text.now c.in-Ok.program c.in-Ok.ensures.found in
+    let above = straight_above c.in-Ok.program _ c.in-Ok.ensures.straight in
     (c.in-Ok.program, c.in-Ok.ensures.found, record { value = c.bound_of.ensures; above = rw c.bound_of.ensures above })
 
 pub returns-in-Err-NotForm-clause-holds : goal.returns-in-Err-NotForm-clause-holds

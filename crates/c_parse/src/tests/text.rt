@@ -1,0 +1,86 @@
+//! Tokens of test texts, which have a blank between any two tokens.
+
+ghost use Rattle.std.specs.Prelude.{◌<◌, ◌≤◌, ◌^◌, length, All, IfOk, OnOk};
+ghost use Rattle.c_parse.specs.Lexeme.{IsWithin};
+
+use crate::{ParseFault, parse};
+use c_tree::{Kind, Token, Unit};
+use std::alloc::{AllocError, Global};
+
+const KEYWORDS: [&str; 8] = [
+    "int", "void", "if", "else", "return", "unsigned", "const", "static",
+];
+
+fn number(spelling: &[u8]) -> Kind {
+    let mut unsigned = false;
+    let mut value = 0u32;
+    for byte in spelling {
+        if byte.is_ascii_digit() {
+            value = value
+                .wrapping_mul(10)
+                .wrapping_add(u32::from(byte.wrapping_sub(b'0')));
+        } else {
+            unsigned = true;
+        }
+    }
+    Kind::Number { unsigned, value }
+}
+
+fn kind(spelling: &[u8]) -> Kind {
+    match spelling {
+        [first, ..] if first.is_ascii_digit() => number(spelling),
+        [first, ..] if first.is_ascii_alphabetic() => {
+            if KEYWORDS.iter().any(|word| word.as_bytes() == spelling) {
+                Kind::Word
+            } else {
+                Kind::Name
+            }
+        }
+        _ => Kind::Mark,
+    }
+}
+
+/// Takes the bytes from `from` up to `to` as a token, if there are any.
+fn push(tokens: &mut Vec<Token>, text: &[u8], from: usize, to: usize) -> Result<(), AllocError>
+    requires short { length text.now < 2 ^ 32 }
+    requires forward { from ≤ to }
+    requires inside { to ≤ length text.now }
+    requires within { All (IsWithin text.now) tokens.old.items }
+    ensures { OnOk result (All (IsWithin text.now) tokens.new.items) }
+{
+    if from == to {
+        return Ok(());
+    }
+    let token = Token {
+        kind: kind(&text[from..to]),
+        from: from as u32,
+        to: to as u32,
+    };
+    tokens.push(token)?;
+    Ok(())
+}
+
+fn tokens_of(alloc: Global, text: &[u8]) -> Result<Vec<Token>, AllocError>
+    requires { length text.now < 2 ^ 32 }
+    ensures { IfOk result (λ tokens. All (IsWithin text.now) tokens.items) }
+{
+    let mut tokens = Vec::new(alloc);
+    let mut from = 0usize;
+    for at in 0..text.len() {
+        if text[at] == b' ' {
+            push(&mut tokens, text, from, at)?;
+            from = at + 1;
+        }
+    }
+    push(&mut tokens, text, from, text.len())?;
+    Ok(tokens)
+}
+
+/// The tree of a text of fewer than 2^24 bytes.
+pub fn parsed(alloc: Global, text: &[u8]) -> Result<Unit, ParseFault> {
+    if text.len() >= 1 << 24 {
+        return Err(ParseFault::NoMemory);
+    }
+    let tokens = tokens_of(alloc, text)?;
+    parse(alloc, text, tokens.as_slice())
+}
