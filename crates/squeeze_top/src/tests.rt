@@ -1,6 +1,9 @@
 use super::*;
 use std::alloc::{AllocError, Global};
+use std::process::Abort;
+use std::sync::Wait;
 use std::test::Fail;
+use std::thread::Threads;
 use wc_outside::{MemShelf, MemSink, OpenGate};
 
 const RETURN_OF_ZERO: &str = "int main(void) { return 0; }";
@@ -23,7 +26,13 @@ fn sink(alloc: Global, most: usize, fails: &[u64]) -> Result<MemSink, Fail> {
     )
 }
 
-fn judged(rt: &HostRuntime, words: &[&str], text: &str, code: u8, line: &str) -> Result<(), Fail> {
+fn judged<R: AllocGlobal + Abort + Threads + Wait + Sync>(
+    rt: &R,
+    words: &[&str],
+    text: &str,
+    code: u8,
+    line: &str,
+) -> Result<(), Fail> {
     let alloc = rt.alloc();
     let mut shelf = shelf(alloc, text, &[])?;
     let mut out = sink(alloc, 64, &[])?;
