@@ -7,7 +7,6 @@ use Rattle.c_tree.specs.declared.value.Value.{Value}
 use Rattle.c_tree.specs.declared.value.Value.TheVariants.{Int, Unsigned}
 use Rattle.c_tree.specs.Operators.{is_int, int, int_same, int_quotient, int_remainder, only_after, quotient, remainder}
 
-
 -- ---- division
 
 quotient_is : (b c : Bool) (d q : ℤ) → (if b then None else (if c then Some (Int d) else None)) ≡ Some (Int q) → d ≡ q
