@@ -1,18 +1,18 @@
 -- What a well-formed expression or statement is, one layer at a time, as code opens it.
-use Rattle.std.proofs.Common.{◌≡◌, ◌≤◌, ℕ, Bool, true, false, List, [], ◌∷◌, length, Option, Some, None, refl, ap}
-use Rattle.std.specs.Prelude.{IsTrue, slice_get, pos}
+use Rattle.std.proofs.Common.{◌≡◌, ℕ, Bool, true, false, List, [], ◌∷◌, Option, Some, None, refl}
+use Rattle.std.specs.Prelude.{IsTrue}
 use Rattle.c_tree.specs.declared.tree.Ty.{Ty}
 use Rattle.c_tree.specs.declared.tree.UnOp.{UnOp}
 use Rattle.c_tree.specs.declared.tree.BinOp.{BinOp}
 use Rattle.c_tree.specs.declared.tree.Var.{Var}
 use Rattle.c_tree.specs.declared.tree.Expr.{Expr}
-use Rattle.c_tree.specs.declared.tree.Expr.TheVariants.{Num, Name, Elem, Un, Cast, Bin, Cond}
+use Rattle.c_tree.specs.declared.tree.Expr.TheVariants.{Elem, Un, Cast, Bin, Cond}
 use Rattle.c_tree.specs.declared.tree.Expr.TheBlock.{shape-the_row-Expr-0, hidden-the_row-Expr-0}
 use Rattle.c_tree.specs.declared.tree.Stmt.{Stmt}
 use Rattle.c_tree.specs.declared.tree.Stmt.TheVariants.{If, While, Do, For, Group}
 use Rattle.c_tree.specs.declared.tree.Stmt.TheBlock.{shape-the_row-Stmt-0, hidden-the_row-Stmt-0, shape-the_row-Stmt-1, hidden-the_row-Stmt-1, back-Stmt-For-1}
 use denote.Hole.Carrier.{hidden}
-use Rattle.c_tree.specs.Layouts.{Layout, shape, is_scalar, is_array}
+use Rattle.c_tree.specs.Layouts.{Layout, shape, is_array}
 use Rattle.c_tree.specs.WellFormed.{Context, WellFormedExpr, WellFormedPart, WellFormedStmt, WellFormedRow, WellFormedHeld, WellFormedSole, WellFormedList, IsBound, is_initialiser, is_step}
 
 pub formed-Un : (l : Layout) (op : UnOp) (a : Expr) → WellFormedExpr l (Un op a) ≡ WellFormedExpr l a

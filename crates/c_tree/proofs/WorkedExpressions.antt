@@ -1,5 +1,5 @@
 -- Worked expressions, computed.
-use Rattle.std.proofs.Common.{◌≡◌, Some, None, [], ◌∷◌, true, false, pos, refl}
+use Rattle.std.proofs.Common.{◌≡◌, Some, None, [], ◌∷◌, refl}
 use Rattle.c_tree.specs.declared.tree.Expr.TheBlock as eb
 use denote.Hole.Carrier as carrier
 use Rattle.c_tree.specs.Expressions as expressions
@@ -9,7 +9,7 @@ use Rattle.c_tree.specs.declared.tree.BinOp.TheVariants as bin
 use Rattle.c_tree.specs.declared.tree.Var.TheVariants.{Local}
 use Rattle.c_tree.specs.declared.tree.Expr.TheVariants.{Num, Elem, Un, Cast, Bin, Cond}
 use Rattle.c_tree.specs.declared.value.Value.TheVariants.{Unsigned}
-use Rattle.c_tree.specs.declared.value.Slot.TheVariants.{Unset, Number, Numbers}
+use Rattle.c_tree.specs.declared.value.Slot.TheVariants.{Unset}
 use Rattle.c_tree.specs.Literals.{plus, minus}
 use Rattle.c_tree.specs.Expressions.{type_of, val}
 use Rattle.c_tree.specs.Worked.{num, local, store, unset, holds, lists}

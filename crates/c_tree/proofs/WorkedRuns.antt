@@ -1,5 +1,5 @@
 -- Worked runs, computed.
-use Rattle.std.proofs.Common.{◌≡◌, Some, None, [], ◌∷◌, true, false, pos, refl}
+use Rattle.std.proofs.Common.{◌≡◌, Some, [], ◌∷◌, pos, refl}
 use Rattle.c_tree.specs.declared.tree.Expr.TheBlock as eb
 use denote.Hole.Carrier as carrier
 use Rattle.c_tree.specs.Expressions as expressions

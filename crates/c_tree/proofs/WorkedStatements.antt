@@ -1,5 +1,5 @@
 -- Worked statements, computed.
-use Rattle.std.proofs.Common.{◌≡◌, Some, None, [], ◌∷◌, true, false, pos, refl}
+use Rattle.std.proofs.Common.{◌≡◌, Some, None, [], ◌∷◌, false, refl}
 use Rattle.c_tree.specs.declared.tree.Expr.TheBlock as eb
 use denote.Hole.Carrier as carrier
 use Rattle.c_tree.specs.Expressions as expressions
@@ -16,7 +16,7 @@ use Rattle.c_tree.specs.declared.tree.Target.TheVariants as target
 use Rattle.c_tree.specs.declared.tree.Stmt.TheVariants.{Empty, Scalar, Array, Assign, Call}
 use Rattle.c_tree.specs.declared.tree.Stmt.TheVariants.{Break, Continue, If, While, Do, For, Group}
 use Rattle.c_tree.specs.declared.value.Value.TheVariants.{Unsigned}
-use Rattle.c_tree.specs.declared.value.Slot.TheVariants.{Unset, Number, Numbers}
+use Rattle.c_tree.specs.declared.value.Slot.TheVariants.{Unset, Numbers}
 use Rattle.c_tree.specs.declared.value.Way.TheVariants as way
 use Rattle.c_tree.specs.Literals.{plus, minus}
 use Rattle.c_tree.specs.Blocks.{list_blocks}
