@@ -1,12 +1,10 @@
 -- Conversion and division in the standard's words.
-use Rattle.std.proofs.Common.{◌≡◌, ◌≤◌, ◌<◌, ℕ, zero, suc, ◌+◌, ◌-◌, ◌*◌, ◌/◌, ◌%◌, ◌^◌, Bool, true, false, if◌then◌else◌, Option, Some, None, ℤ, pos, negsuc, refl, sym, subst, ap, ◌∙◌, arith}
-use Rattle.std.specs.Prelude.{int_div, int_rem, ◌+ℤ◌, ◌*ℤ◌, unsigned_abs}
-use Rattle.std.specs.Int.{cast_signed, w32}
-use Rattle.std.proofs.lemmas.Int.{quot-rem, rem_below, to_z_pos}
+use Rattle.std.proofs.Common.{◌≡◌, ◌<◌, ℕ, zero, suc, ◌+◌, ◌*◌, ◌/◌, ◌%◌, Bool, true, false, if◌then◌else◌, Option, Some, None, ℤ, pos, subst, arith}
+use Rattle.std.specs.Prelude.{int_div, int_rem, ◌+ℤ◌, ◌*ℤ◌}
+use Rattle.std.proofs.lemmas.Int.{quot-rem}
 use Rattle.c_tree.specs.declared.value.Value.{Value}
 use Rattle.c_tree.specs.declared.value.Value.TheVariants.{Int, Unsigned}
-use Rattle.c_tree.specs.Operators.{is_int, int, int_same, int_quotient, int_remainder, only_after, quotient, remainder}
-
+use Rattle.c_tree.specs.Operators.{is_int, int_same, int_quotient, int_remainder, only_after, quotient, remainder}
 
 -- ---- division
 

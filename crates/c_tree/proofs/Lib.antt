@@ -17,3 +17,4 @@ pub mod SpanLayers
 pub mod Arithmetic
 pub mod Traces
 pub mod WorkedWellFormed
+pub mod FormedLayers

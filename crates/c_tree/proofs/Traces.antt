@@ -1,6 +1,6 @@
 -- A trace has only blocks of the program.
-use Rattle.std.proofs.Common.{◌≡◌, ◌<◌, ◌≤◌, ℕ, zero, suc, ◌+◌, Bool, true, false, if◌then◌else◌, List, [], ◌∷◌, ◌++◌, length, Option, Some, None, refl, sym, subst, ap, ◌∙◌, arith, append_assoc, length-append}
-use Rattle.std.specs.Prelude.{IfSome, slice_get}
+use Rattle.std.proofs.Common.{◌≡◌, ◌<◌, ◌≤◌, ℕ, zero, suc, ◌+◌, Bool, true, false, if◌then◌else◌, List, [], ◌∷◌, ◌++◌, length, Option, Some, None, refl, subst, ap, ◌∙◌, arith, append_assoc, length-append}
+use Rattle.std.specs.Prelude.{slice_get}
 use Rattle.c_tree.specs.declared.tree.Ty.{Ty}
 use Rattle.c_tree.specs.declared.tree.Expr.{Expr}
 use Rattle.c_tree.specs.declared.tree.Target.{Target}
@@ -18,8 +18,8 @@ use Rattle.c_tree.specs.declared.value.Way.TheVariants as way
 use Rattle.c_tree.specs.Values.{is_true}
 use Rattle.c_tree.specs.Expressions.{val, all_values}
 use Rattle.c_tree.specs.Blocks.{is_simple, begun, blocks, row_blocks, held_blocks, list_blocks, block_count, IsBlockOf, AreBlocksOf}
-use Rattle.c_tree.specs.Statements.{Callee, Back, Gives, Lost, Outcome, Ends, Undefined, OverBound, with_value, stored, after, then_do, turn_do, block, entered, simple, while_turns, do_turns, unset_target, give, come_back, call, return_value, exec, row_exec, held_exec, list_exec}
-use Rattle.c_tree.specs.Runs.{entry_slots, back, callee, callees, Run, Ended, IsUndefined, IsOverBound, run_of, started, run, entry_types, arguments, global_slots}
+use Rattle.c_tree.specs.Statements.{Callee, Back, Gives, Lost, Outcome, Ends, Undefined, OverBound, with_value, stored, after, then_do, turn_do, entered, simple, while_turns, do_turns, unset_target, give, come_back, call, return_value, exec, row_exec, held_exec, list_exec}
+use Rattle.c_tree.specs.Runs.{entry_slots, back, callee, callees, Run, Ended, IsUndefined, IsOverBound, run_of, started, run}
 
 -- ---- combinators, of functions fs
 

@@ -9,38 +9,38 @@ use Rattle.c_tree.specs.declared.tree.BinOp.TheVariants as bin
 use Rattle.c_tree.specs.declared.tree.Var.TheVariants.{Local}
 use Rattle.c_tree.specs.declared.tree.Expr.TheVariants.{Num, Elem, Un, Cast, Bin, Cond}
 use Rattle.c_tree.specs.declared.value.Value.TheVariants.{Unsigned}
-use Rattle.c_tree.specs.declared.value.Slot.TheVariants.{Unset, Number, Numbers}
+use Rattle.c_tree.specs.declared.value.Slot.TheVariants.{Unset}
 use Rattle.c_tree.specs.Literals.{plus, minus}
 use Rattle.c_tree.specs.Expressions.{type_of, val}
-use Rattle.c_tree.specs.Worked.{num, local, store}
+use Rattle.c_tree.specs.Worked.{num, local, store, unset, holds, lists}
 
 -- ---- reads
 
-pub reads-number : val (local 0) (store (Number (minus 31) ∷ [])) ≡ Some (minus 31)
+pub reads-number : val (local 0) (holds (minus 31)) ≡ Some (minus 31)
 unfolding eb.shape-the_row-Expr-0 eb.hidden-the_row-Expr-0 carrier.hidden expressions.val expressions.row_val expressions.type_of expressions.row_type
 reads-number = refl
 
-pub reads-unset : val (local 0) (store (Unset ty.Int ∷ [])) ≡ None
+pub reads-unset : val (local 0) unset ≡ None
 unfolding eb.shape-the_row-Expr-0 eb.hidden-the_row-Expr-0 carrier.hidden expressions.val expressions.row_val expressions.type_of expressions.row_type
 reads-unset = refl
 
-pub reads-element : val (Elem (Local 0) (num 1)) (store (Numbers ty.Int (plus 31 ∷ plus 32 ∷ []) ∷ [])) ≡ Some (plus 32)
+pub reads-element : val (Elem (Local 0) (num 1)) (lists ty.Int (plus 31 ∷ plus 32 ∷ [])) ≡ Some (plus 32)
 unfolding eb.shape-the_row-Expr-0 eb.hidden-the_row-Expr-0 carrier.hidden expressions.val expressions.row_val expressions.type_of expressions.row_type
 reads-element = refl
 
-pub reads-at_length : val (Elem (Local 0) (num 2)) (store (Numbers ty.Int (plus 31 ∷ plus 32 ∷ []) ∷ [])) ≡ None
+pub reads-at_length : val (Elem (Local 0) (num 2)) (lists ty.Int (plus 31 ∷ plus 32 ∷ [])) ≡ None
 unfolding eb.shape-the_row-Expr-0 eb.hidden-the_row-Expr-0 carrier.hidden expressions.val expressions.row_val expressions.type_of expressions.row_type
 reads-at_length = refl
 
-pub reads-below : val (Elem (Local 0) (Un un.Minus (num 1))) (store (Numbers ty.Int (plus 31 ∷ []) ∷ [])) ≡ None
+pub reads-below : val (Elem (Local 0) (Un un.Minus (num 1))) (lists ty.Int (plus 31 ∷ [])) ≡ None
 unfolding eb.shape-the_row-Expr-0 eb.hidden-the_row-Expr-0 carrier.hidden expressions.val expressions.row_val expressions.type_of expressions.row_type
 reads-below = refl
 
-pub reads-far : val (Elem (Local 0) (Num ty.Unsigned 4294967295)) (store (Numbers ty.Int (plus 31 ∷ []) ∷ [])) ≡ None
+pub reads-far : val (Elem (Local 0) (Num ty.Unsigned 4294967295)) (lists ty.Int (plus 31 ∷ [])) ≡ None
 unfolding eb.shape-the_row-Expr-0 eb.hidden-the_row-Expr-0 carrier.hidden expressions.val expressions.row_val expressions.type_of expressions.row_type
 reads-far = refl
 
-pub reads-unset_array : val (Elem (Local 0) (num 0)) (store (Unset ty.Int ∷ [])) ≡ None
+pub reads-unset_array : val (Elem (Local 0) (num 0)) unset ≡ None
 unfolding eb.shape-the_row-Expr-0 eb.hidden-the_row-Expr-0 carrier.hidden expressions.val expressions.row_val expressions.type_of expressions.row_type
 reads-unset_array = refl
 
@@ -54,7 +54,7 @@ pub casts-to_unsigned : val (Cast ty.Unsigned (Un un.Minus (num 1))) (store []) 
 unfolding eb.shape-the_row-Expr-0 eb.hidden-the_row-Expr-0 carrier.hidden expressions.val expressions.row_val expressions.type_of expressions.row_type
 casts-to_unsigned = refl
 
-pub casts-of_undefined : val (Cast ty.Int (local 0)) (store (Unset ty.Int ∷ [])) ≡ None
+pub casts-of_undefined : val (Cast ty.Int (local 0)) unset ≡ None
 unfolding eb.shape-the_row-Expr-0 eb.hidden-the_row-Expr-0 carrier.hidden expressions.val expressions.row_val expressions.type_of expressions.row_type
 casts-of_undefined = refl
 
@@ -72,11 +72,11 @@ pub choices-first : val (Cond (Num ty.Unsigned 2147483648) (num 31) (Bin bin.Div
 unfolding eb.shape-the_row-Expr-0 eb.hidden-the_row-Expr-0 carrier.hidden expressions.val expressions.row_val expressions.type_of expressions.row_type
 choices-first = refl
 
-pub choices-undefined_condition : val (Cond (local 0) (num 1) (num 1)) (store (Unset ty.Int ∷ [])) ≡ None
+pub choices-undefined_condition : val (Cond (local 0) (num 1) (num 1)) unset ≡ None
 unfolding eb.shape-the_row-Expr-0 eb.hidden-the_row-Expr-0 carrier.hidden expressions.val expressions.row_val expressions.type_of expressions.row_type
 choices-undefined_condition = refl
 
-pub choices-undefined_choice : val (Cond (num 1) (local 0) (num 1)) (store (Unset ty.Int ∷ [])) ≡ None
+pub choices-undefined_choice : val (Cond (num 1) (local 0) (num 1)) unset ≡ None
 unfolding eb.shape-the_row-Expr-0 eb.hidden-the_row-Expr-0 carrier.hidden expressions.val expressions.row_val expressions.type_of expressions.row_type
 choices-undefined_choice = refl
 

@@ -1,10 +1,10 @@
 -- Worked runs, computed.
 use Rattle.std.proofs.Common.{◌≡◌, Some, [], ◌∷◌, pos, refl}
-use Rattle.std.specs.Prelude.{neg_ℤ}
 use Rattle.c_tree.specs.declared.tree.Expr.TheBlock as eb
-use Rattle.c_tree.specs.declared.tree.Stmt.TheBlock as sb
 use denote.Hole.Carrier as carrier
 use Rattle.c_tree.specs.Expressions as expressions
+use Rattle.std.specs.Prelude.{neg_ℤ}
+use Rattle.c_tree.specs.declared.tree.Stmt.TheBlock as sb
 use Rattle.c_tree.specs.Blocks as blocks
 use Rattle.c_tree.specs.Statements as statements
 use Rattle.c_tree.specs.declared.tree.Ty.TheVariants as ty
@@ -13,11 +13,11 @@ use Rattle.c_tree.specs.declared.tree.Var.TheVariants.{Local}
 use Rattle.c_tree.specs.declared.tree.Target.TheVariants as target
 use Rattle.c_tree.specs.declared.tree.Stmt.TheVariants.{Call}
 use Rattle.c_tree.specs.Runs.{run, IsUndefined, IsOverBound}
-use Rattle.c_tree.specs.Worked.{num, ones, table, input, cost_at}
-use Rattle.c_tree.specs.Worked.{return_of_zero, two_thresholds, overflow_guard}
-use Rattle.c_tree.specs.Worked.{counted_while, counted_do, triangular_loops}
+use Rattle.c_tree.specs.Worked.{num, ones, input, cost_at}
+use Rattle.c_tree.specs.Worked.{return_of_zero, two_thresholds, two_thresholds_costs, overflow_guard}
+use Rattle.c_tree.specs.Worked.{counted_while, counted_do, triangular_loops, triangular_loops_costs}
 use Rattle.c_tree.specs.Worked.{division_by_zero, returned, guarded_division, masked_index}
-use Rattle.c_tree.specs.Worked.{missing_result, clamp_filter, clamp_filter_costs}
+use Rattle.c_tree.specs.Worked.{missing_result, clamp_filter, clamp_filter_costs, samples}
 use Rattle.c_tree.specs.Worked.{one_or_x, own_initialiser, initialised_by_call}
 
 -- ---- straight runs
@@ -26,15 +26,15 @@ pub straight_runs-return_of_zero : cost_at return_of_zero ones [] ≡ Some 1
 unfolding return_of_zero two_thresholds overflow_guard counted_while counted_do triangular_loops division_by_zero returned guarded_division masked_index missing_result clamp_filter own_initialiser initialised_by_call eb.shape-the_row-Expr-0 eb.hidden-the_row-Expr-0 sb.shape-the_row-Stmt-0 sb.hidden-the_row-Stmt-0 sb.shape-the_row-Stmt-1 sb.hidden-the_row-Stmt-1 carrier.hidden expressions.val expressions.row_val expressions.type_of expressions.row_type statements.exec statements.row_exec statements.held_exec blocks.blocks blocks.row_blocks blocks.held_blocks
 straight_runs-return_of_zero = refl
 
-pub straight_runs-between : cost_at two_thresholds (table ((1 ∷ 1 ∷ 50 ∷ 1 ∷ 40 ∷ 1 ∷ []) ∷ [])) (pos 7 ∷ []) ≡ Some 4
+pub straight_runs-between : cost_at two_thresholds two_thresholds_costs (pos 7 ∷ []) ≡ Some 4
 unfolding return_of_zero two_thresholds overflow_guard counted_while counted_do triangular_loops division_by_zero returned guarded_division masked_index missing_result clamp_filter own_initialiser initialised_by_call eb.shape-the_row-Expr-0 eb.hidden-the_row-Expr-0 sb.shape-the_row-Stmt-0 sb.hidden-the_row-Stmt-0 sb.shape-the_row-Stmt-1 sb.hidden-the_row-Stmt-1 carrier.hidden expressions.val expressions.row_val expressions.type_of expressions.row_type statements.exec statements.row_exec statements.held_exec blocks.blocks blocks.row_blocks blocks.held_blocks
 straight_runs-between = refl
 
-pub straight_runs-above : cost_at two_thresholds (table ((1 ∷ 1 ∷ 50 ∷ 1 ∷ 40 ∷ 1 ∷ []) ∷ [])) (pos 11 ∷ []) ≡ Some 54
+pub straight_runs-above : cost_at two_thresholds two_thresholds_costs (pos 11 ∷ []) ≡ Some 54
 unfolding return_of_zero two_thresholds overflow_guard counted_while counted_do triangular_loops division_by_zero returned guarded_division masked_index missing_result clamp_filter own_initialiser initialised_by_call eb.shape-the_row-Expr-0 eb.hidden-the_row-Expr-0 sb.shape-the_row-Stmt-0 sb.hidden-the_row-Stmt-0 sb.shape-the_row-Stmt-1 sb.hidden-the_row-Stmt-1 carrier.hidden expressions.val expressions.row_val expressions.type_of expressions.row_type statements.exec statements.row_exec statements.held_exec blocks.blocks blocks.row_blocks blocks.held_blocks
 straight_runs-above = refl
 
-pub straight_runs-below : cost_at two_thresholds (table ((1 ∷ 1 ∷ 50 ∷ 1 ∷ 40 ∷ 1 ∷ []) ∷ [])) (pos 4 ∷ []) ≡ Some 44
+pub straight_runs-below : cost_at two_thresholds two_thresholds_costs (pos 4 ∷ []) ≡ Some 44
 unfolding return_of_zero two_thresholds overflow_guard counted_while counted_do triangular_loops division_by_zero returned guarded_division masked_index missing_result clamp_filter own_initialiser initialised_by_call eb.shape-the_row-Expr-0 eb.hidden-the_row-Expr-0 sb.shape-the_row-Stmt-0 sb.hidden-the_row-Stmt-0 sb.shape-the_row-Stmt-1 sb.hidden-the_row-Stmt-1 carrier.hidden expressions.val expressions.row_val expressions.type_of expressions.row_type statements.exec statements.row_exec statements.held_exec blocks.blocks blocks.row_blocks blocks.held_blocks
 straight_runs-below = refl
 
@@ -76,7 +76,7 @@ pub loop_runs-do_over : run counted_do (input (pos 4 ∷ [])) ≡ IsOverBound
 unfolding return_of_zero two_thresholds overflow_guard counted_while counted_do triangular_loops division_by_zero returned guarded_division masked_index missing_result clamp_filter own_initialiser initialised_by_call eb.shape-the_row-Expr-0 eb.hidden-the_row-Expr-0 sb.shape-the_row-Stmt-0 sb.hidden-the_row-Stmt-0 sb.shape-the_row-Stmt-1 sb.hidden-the_row-Stmt-1 carrier.hidden expressions.val expressions.row_val expressions.type_of expressions.row_type statements.exec statements.row_exec statements.held_exec blocks.blocks blocks.row_blocks blocks.held_blocks
 loop_runs-do_over = refl
 
-pub loop_runs-triangle : cost_at triangular_loops (table ((0 ∷ 0 ∷ 0 ∷ 0 ∷ 0 ∷ 0 ∷ 0 ∷ 10 ∷ 0 ∷ []) ∷ [])) [] ≡ Some 60
+pub loop_runs-triangle : cost_at triangular_loops triangular_loops_costs [] ≡ Some 60
 unfolding return_of_zero two_thresholds overflow_guard counted_while counted_do triangular_loops division_by_zero returned guarded_division masked_index missing_result clamp_filter own_initialiser initialised_by_call eb.shape-the_row-Expr-0 eb.hidden-the_row-Expr-0 sb.shape-the_row-Stmt-0 sb.hidden-the_row-Stmt-0 sb.shape-the_row-Stmt-1 sb.hidden-the_row-Stmt-1 carrier.hidden expressions.val expressions.row_val expressions.type_of expressions.row_type statements.exec statements.row_exec statements.held_exec blocks.blocks blocks.row_blocks blocks.held_blocks
 loop_runs-triangle = refl
 
@@ -120,7 +120,7 @@ pub call_runs-not_used : cost_at (missing_result (Call target.Nothing 0 [])) one
 unfolding return_of_zero two_thresholds overflow_guard counted_while counted_do triangular_loops division_by_zero returned guarded_division masked_index missing_result clamp_filter own_initialiser initialised_by_call eb.shape-the_row-Expr-0 eb.hidden-the_row-Expr-0 sb.shape-the_row-Stmt-0 sb.hidden-the_row-Stmt-0 sb.shape-the_row-Stmt-1 sb.hidden-the_row-Stmt-1 carrier.hidden expressions.val expressions.row_val expressions.type_of expressions.row_type statements.exec statements.row_exec statements.held_exec blocks.blocks blocks.row_blocks blocks.held_blocks
 call_runs-not_used = refl
 
-pub call_runs-filter : cost_at clamp_filter clamp_filter_costs (neg_ℤ (pos 200) ∷ neg_ℤ (pos 200) ∷ neg_ℤ (pos 200) ∷ neg_ℤ (pos 200) ∷ pos 2 ∷ []) ≡ Some 164
+pub call_runs-filter : cost_at clamp_filter clamp_filter_costs (samples 200 2) ≡ Some 164
 unfolding return_of_zero two_thresholds overflow_guard counted_while counted_do triangular_loops division_by_zero returned guarded_division masked_index missing_result clamp_filter own_initialiser initialised_by_call eb.shape-the_row-Expr-0 eb.hidden-the_row-Expr-0 sb.shape-the_row-Stmt-0 sb.hidden-the_row-Stmt-0 sb.shape-the_row-Stmt-1 sb.hidden-the_row-Stmt-1 carrier.hidden expressions.val expressions.row_val expressions.type_of expressions.row_type statements.exec statements.row_exec statements.held_exec blocks.blocks blocks.row_blocks blocks.held_blocks
 call_runs-filter = refl
 

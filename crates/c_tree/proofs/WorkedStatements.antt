@@ -13,64 +13,65 @@ use Rattle.c_tree.specs.declared.tree.Var.TheVariants.{Local}
 use Rattle.c_tree.specs.declared.tree.Expr.TheVariants.{Num, Elem, Un, Bin}
 use Rattle.c_tree.specs.declared.tree.Place.TheVariants as place
 use Rattle.c_tree.specs.declared.tree.Target.TheVariants as target
-use Rattle.c_tree.specs.declared.tree.Stmt.TheVariants.{Empty, Scalar, Array, Assign, Call, Break, Continue, If, While, Do, For, Group}
+use Rattle.c_tree.specs.declared.tree.Stmt.TheVariants.{Empty, Scalar, Array, Assign, Call}
+use Rattle.c_tree.specs.declared.tree.Stmt.TheVariants.{Break, Continue, If, While, Do, For, Group}
 use Rattle.c_tree.specs.declared.value.Value.TheVariants.{Unsigned}
-use Rattle.c_tree.specs.declared.value.Slot.TheVariants.{Unset, Number, Numbers}
+use Rattle.c_tree.specs.declared.value.Slot.TheVariants.{Unset, Numbers}
 use Rattle.c_tree.specs.declared.value.Way.TheVariants as way
 use Rattle.c_tree.specs.Literals.{plus, minus}
 use Rattle.c_tree.specs.Blocks.{list_blocks}
-use Rattle.c_tree.specs.Statements.{simple, block, list_exec, Ends, Undefined, OverBound}
-use Rattle.c_tree.specs.Worked.{num, local, declares, sets, counts, store}
+use Rattle.c_tree.specs.Statements.{simple, Ends, Undefined, OverBound}
+use Rattle.c_tree.specs.Worked.{num, local, declares, sets, counts, store, unset, holds, lists, effect, at}
 
 -- ---- declarations
 
-pub declarations-no_initialiser : simple (Scalar 0 None) (store (Number (plus 31) ∷ [])) ≡ Some (store (Unset ty.Int ∷ []))
+pub declarations-no_initialiser : simple (Scalar 0 None) (holds (plus 31)) ≡ Some unset
 unfolding eb.shape-the_row-Expr-0 eb.hidden-the_row-Expr-0 sb.shape-the_row-Stmt-0 sb.hidden-the_row-Stmt-0 sb.shape-the_row-Stmt-1 sb.hidden-the_row-Stmt-1 carrier.hidden expressions.val expressions.row_val expressions.type_of expressions.row_type statements.exec statements.row_exec statements.held_exec blocks.blocks blocks.row_blocks blocks.held_blocks
 declarations-no_initialiser = refl
 
-pub declarations-own_initialiser : simple (declares 0 (local 0)) (store (Number (plus 31) ∷ [])) ≡ None
+pub declarations-own_initialiser : simple (declares 0 (local 0)) (holds (plus 31)) ≡ None
 unfolding eb.shape-the_row-Expr-0 eb.hidden-the_row-Expr-0 sb.shape-the_row-Stmt-0 sb.hidden-the_row-Stmt-0 sb.shape-the_row-Stmt-1 sb.hidden-the_row-Stmt-1 carrier.hidden expressions.val expressions.row_val expressions.type_of expressions.row_type statements.exec statements.row_exec statements.held_exec blocks.blocks blocks.row_blocks blocks.held_blocks
 declarations-own_initialiser = refl
 
-pub declarations-own_list : simple (Array 0 (Elem (Local 0) (num 0) ∷ [])) (store (Numbers ty.Int (plus 31 ∷ []) ∷ [])) ≡ None
+pub declarations-own_list : simple (Array 0 (Elem (Local 0) (num 0) ∷ [])) (lists ty.Int (plus 31 ∷ [])) ≡ None
 unfolding eb.shape-the_row-Expr-0 eb.hidden-the_row-Expr-0 sb.shape-the_row-Stmt-0 sb.hidden-the_row-Stmt-0 sb.shape-the_row-Stmt-1 sb.hidden-the_row-Stmt-1 carrier.hidden expressions.val expressions.row_val expressions.type_of expressions.row_type statements.exec statements.row_exec statements.held_exec blocks.blocks blocks.row_blocks blocks.held_blocks
 declarations-own_list = refl
 
-pub declarations-converted : simple (Scalar 0 (Some (Num ty.Unsigned 4294967295))) (store (Unset ty.Int ∷ [])) ≡ Some (store (Number (minus 1) ∷ []))
+pub declarations-converted : simple (Scalar 0 (Some (Num ty.Unsigned 4294967295))) unset ≡ Some (holds (minus 1))
 unfolding eb.shape-the_row-Expr-0 eb.hidden-the_row-Expr-0 sb.shape-the_row-Stmt-0 sb.hidden-the_row-Stmt-0 sb.shape-the_row-Stmt-1 sb.hidden-the_row-Stmt-1 carrier.hidden expressions.val expressions.row_val expressions.type_of expressions.row_type statements.exec statements.row_exec statements.held_exec blocks.blocks blocks.row_blocks blocks.held_blocks
 declarations-converted = refl
 
-pub declarations-filled : simple (Array 0 (num 31 ∷ [])) (store (Numbers ty.Unsigned (Unsigned 1 ∷ Unsigned 2 ∷ Unsigned 3 ∷ []) ∷ [])) ≡ Some (store (Numbers ty.Unsigned (Unsigned 31 ∷ Unsigned 0 ∷ Unsigned 0 ∷ []) ∷ []))
+pub declarations-filled : simple (Array 0 (num 31 ∷ [])) (lists ty.Unsigned (Unsigned 1 ∷ Unsigned 2 ∷ Unsigned 3 ∷ [])) ≡ Some (lists ty.Unsigned (Unsigned 31 ∷ Unsigned 0 ∷ Unsigned 0 ∷ []))
 unfolding eb.shape-the_row-Expr-0 eb.hidden-the_row-Expr-0 sb.shape-the_row-Stmt-0 sb.hidden-the_row-Stmt-0 sb.shape-the_row-Stmt-1 sb.hidden-the_row-Stmt-1 carrier.hidden expressions.val expressions.row_val expressions.type_of expressions.row_type statements.exec statements.row_exec statements.held_exec blocks.blocks blocks.row_blocks blocks.held_blocks
 declarations-filled = refl
 
 -- ---- assignments
 
-pub assignments-converted : simple (sets 0 None (Num ty.Unsigned 2147483648)) (store (Unset ty.Int ∷ [])) ≡ Some (store (Number (minus 2147483648) ∷ []))
+pub assignments-converted : simple (sets 0 None (Num ty.Unsigned 2147483648)) unset ≡ Some (holds (minus 2147483648))
 unfolding eb.shape-the_row-Expr-0 eb.hidden-the_row-Expr-0 sb.shape-the_row-Stmt-0 sb.hidden-the_row-Stmt-0 sb.shape-the_row-Stmt-1 sb.hidden-the_row-Stmt-1 carrier.hidden expressions.val expressions.row_val expressions.type_of expressions.row_type statements.exec statements.row_exec statements.held_exec blocks.blocks blocks.row_blocks blocks.held_blocks
 assignments-converted = refl
 
-pub assignments-compound : simple (sets 0 (Some bin.Sub) (num 32)) (store (Number (Unsigned 31) ∷ [])) ≡ Some (store (Number (Unsigned 4294967295) ∷ []))
+pub assignments-compound : simple (sets 0 (Some bin.Sub) (num 32)) (holds (Unsigned 31)) ≡ Some (holds (Unsigned 4294967295))
 unfolding eb.shape-the_row-Expr-0 eb.hidden-the_row-Expr-0 sb.shape-the_row-Stmt-0 sb.hidden-the_row-Stmt-0 sb.shape-the_row-Stmt-1 sb.hidden-the_row-Stmt-1 carrier.hidden expressions.val expressions.row_val expressions.type_of expressions.row_type statements.exec statements.row_exec statements.held_exec blocks.blocks blocks.row_blocks blocks.held_blocks
 assignments-compound = refl
 
-pub assignments-compound_unset : simple (sets 0 (Some bin.Add) (num 1)) (store (Unset ty.Int ∷ [])) ≡ None
+pub assignments-compound_unset : simple (sets 0 (Some bin.Add) (num 1)) unset ≡ None
 unfolding eb.shape-the_row-Expr-0 eb.hidden-the_row-Expr-0 sb.shape-the_row-Stmt-0 sb.hidden-the_row-Stmt-0 sb.shape-the_row-Stmt-1 sb.hidden-the_row-Stmt-1 carrier.hidden expressions.val expressions.row_val expressions.type_of expressions.row_type statements.exec statements.row_exec statements.held_exec blocks.blocks blocks.row_blocks blocks.held_blocks
 assignments-compound_unset = refl
 
-pub assignments-overflow : simple (counts 0) (store (Number (plus 2147483647) ∷ [])) ≡ None
+pub assignments-overflow : simple (counts 0) (holds (plus 2147483647)) ≡ None
 unfolding eb.shape-the_row-Expr-0 eb.hidden-the_row-Expr-0 sb.shape-the_row-Stmt-0 sb.hidden-the_row-Stmt-0 sb.shape-the_row-Stmt-1 sb.hidden-the_row-Stmt-1 carrier.hidden expressions.val expressions.row_val expressions.type_of expressions.row_type statements.exec statements.row_exec statements.held_exec blocks.blocks blocks.row_blocks blocks.held_blocks
 assignments-overflow = refl
 
-pub assignments-element : simple (Assign (place.Elem (Local 0) (num 1)) (Some bin.Mul) (num 31)) (store (Numbers ty.Int (plus 1 ∷ plus 2 ∷ []) ∷ [])) ≡ Some (store (Numbers ty.Int (plus 1 ∷ plus 62 ∷ []) ∷ []))
+pub assignments-element : simple (Assign (place.Elem (Local 0) (num 1)) (Some bin.Mul) (num 31)) (lists ty.Int (plus 1 ∷ plus 2 ∷ [])) ≡ Some (lists ty.Int (plus 1 ∷ plus 62 ∷ []))
 unfolding eb.shape-the_row-Expr-0 eb.hidden-the_row-Expr-0 sb.shape-the_row-Stmt-0 sb.hidden-the_row-Stmt-0 sb.shape-the_row-Stmt-1 sb.hidden-the_row-Stmt-1 carrier.hidden expressions.val expressions.row_val expressions.type_of expressions.row_type statements.exec statements.row_exec statements.held_exec blocks.blocks blocks.row_blocks blocks.held_blocks
 assignments-element = refl
 
-pub assignments-outside : simple (Assign (place.Elem (Local 0) (num 2)) None (num 31)) (store (Numbers ty.Int (plus 1 ∷ plus 2 ∷ []) ∷ [])) ≡ None
+pub assignments-outside : simple (Assign (place.Elem (Local 0) (num 2)) None (num 31)) (lists ty.Int (plus 1 ∷ plus 2 ∷ [])) ≡ None
 unfolding eb.shape-the_row-Expr-0 eb.hidden-the_row-Expr-0 sb.shape-the_row-Stmt-0 sb.hidden-the_row-Stmt-0 sb.shape-the_row-Stmt-1 sb.hidden-the_row-Stmt-1 carrier.hidden expressions.val expressions.row_val expressions.type_of expressions.row_type statements.exec statements.row_exec statements.held_exec blocks.blocks blocks.row_blocks blocks.held_blocks
 assignments-outside = refl
 
-pub assignments-below : simple (Assign (place.Elem (Local 0) (Un un.Minus (num 1))) None (num 31)) (store (Numbers ty.Int (plus 1 ∷ []) ∷ [])) ≡ None
+pub assignments-below : simple (Assign (place.Elem (Local 0) (Un un.Minus (num 1))) None (num 31)) (lists ty.Int (plus 1 ∷ [])) ≡ None
 unfolding eb.shape-the_row-Expr-0 eb.hidden-the_row-Expr-0 sb.shape-the_row-Stmt-0 sb.hidden-the_row-Stmt-0 sb.shape-the_row-Stmt-1 sb.hidden-the_row-Stmt-1 carrier.hidden expressions.val expressions.row_val expressions.type_of expressions.row_type statements.exec statements.row_exec statements.held_exec blocks.blocks blocks.row_blocks blocks.held_blocks
 assignments-below = refl
 
@@ -78,11 +79,11 @@ pub assignments-undefined_index : simple (Assign (place.Elem (Local 0) (local 1)
 unfolding eb.shape-the_row-Expr-0 eb.hidden-the_row-Expr-0 sb.shape-the_row-Stmt-0 sb.hidden-the_row-Stmt-0 sb.shape-the_row-Stmt-1 sb.hidden-the_row-Stmt-1 carrier.hidden expressions.val expressions.row_val expressions.type_of expressions.row_type statements.exec statements.row_exec statements.held_exec blocks.blocks blocks.row_blocks blocks.held_blocks
 assignments-undefined_index = refl
 
-pub assignments-undefined_value : simple (sets 0 None (Bin bin.Div (num 1) (num 0))) (store (Unset ty.Int ∷ [])) ≡ None
+pub assignments-undefined_value : simple (sets 0 None (Bin bin.Div (num 1) (num 0))) unset ≡ None
 unfolding eb.shape-the_row-Expr-0 eb.hidden-the_row-Expr-0 sb.shape-the_row-Stmt-0 sb.hidden-the_row-Stmt-0 sb.shape-the_row-Stmt-1 sb.hidden-the_row-Stmt-1 carrier.hidden expressions.val expressions.row_val expressions.type_of expressions.row_type statements.exec statements.row_exec statements.held_exec blocks.blocks blocks.row_blocks blocks.held_blocks
 assignments-undefined_value = refl
 
-pub assignments-nothing : simple Empty (store (Unset ty.Int ∷ [])) ≡ Some (store (Unset ty.Int ∷ []))
+pub assignments-nothing : simple Empty unset ≡ Some unset
 unfolding eb.shape-the_row-Expr-0 eb.hidden-the_row-Expr-0 sb.shape-the_row-Stmt-0 sb.hidden-the_row-Stmt-0 sb.shape-the_row-Stmt-1 sb.hidden-the_row-Stmt-1 carrier.hidden expressions.val expressions.row_val expressions.type_of expressions.row_type statements.exec statements.row_exec statements.held_exec blocks.blocks blocks.row_blocks blocks.held_blocks
 assignments-nothing = refl
 
@@ -122,26 +123,26 @@ block_counts-do_loop = refl
 
 -- ---- traces
 
-pub traces-else_list : list_exec [] 7 (counts 0 ∷ Empty ∷ If (num 0) (counts 0 ∷ []) (counts 0 ∷ []) ∷ []) 0 false (store (Number (plus 0) ∷ [])) ≡ Ends (block 7 0 ∷ block 7 1 ∷ block 7 3 ∷ []) (store (Number (plus 2) ∷ [])) way.Next
+pub traces-else_list : effect (counts 0 ∷ Empty ∷ If (num 0) (counts 0 ∷ []) (counts 0 ∷ []) ∷ []) (holds (plus 0)) ≡ Ends (at 0 ∷ at 1 ∷ at 3 ∷ []) (holds (plus 2)) way.Next
 unfolding eb.shape-the_row-Expr-0 eb.hidden-the_row-Expr-0 sb.shape-the_row-Stmt-0 sb.hidden-the_row-Stmt-0 sb.shape-the_row-Stmt-1 sb.hidden-the_row-Stmt-1 carrier.hidden expressions.val expressions.row_val expressions.type_of expressions.row_type statements.exec statements.row_exec statements.held_exec blocks.blocks blocks.row_blocks blocks.held_blocks
 traces-else_list = refl
 
-pub traces-for_continue : list_exec [] 7 (For 1 (Some (sets 0 None (num 0))) (Bin bin.Lt (local 0) (num 1)) (Some (counts 0)) (Continue ∷ []) ∷ []) 0 false (store (Unset ty.Int ∷ [])) ≡ Ends (block 7 0 ∷ block 7 1 ∷ block 7 3 ∷ block 7 2 ∷ block 7 1 ∷ []) (store (Number (plus 1) ∷ [])) way.Next
+pub traces-for_continue : effect (For 1 (Some (sets 0 None (num 0))) (Bin bin.Lt (local 0) (num 1)) (Some (counts 0)) (Continue ∷ []) ∷ []) unset ≡ Ends (at 0 ∷ at 1 ∷ at 3 ∷ at 2 ∷ at 1 ∷ []) (holds (plus 1)) way.Next
 unfolding eb.shape-the_row-Expr-0 eb.hidden-the_row-Expr-0 sb.shape-the_row-Stmt-0 sb.hidden-the_row-Stmt-0 sb.shape-the_row-Stmt-1 sb.hidden-the_row-Stmt-1 carrier.hidden expressions.val expressions.row_val expressions.type_of expressions.row_type statements.exec statements.row_exec statements.held_exec blocks.blocks blocks.row_blocks blocks.held_blocks
 traces-for_continue = refl
 
-pub traces-while_break : list_exec [] 7 (While 1 (num 1) (Break ∷ []) ∷ []) 0 false (store []) ≡ Ends (block 7 0 ∷ block 7 1 ∷ []) (store []) way.Next
+pub traces-while_break : effect (While 1 (num 1) (Break ∷ []) ∷ []) (store []) ≡ Ends (at 0 ∷ at 1 ∷ []) (store []) way.Next
 unfolding eb.shape-the_row-Expr-0 eb.hidden-the_row-Expr-0 sb.shape-the_row-Stmt-0 sb.hidden-the_row-Stmt-0 sb.shape-the_row-Stmt-1 sb.hidden-the_row-Stmt-1 carrier.hidden expressions.val expressions.row_val expressions.type_of expressions.row_type statements.exec statements.row_exec statements.held_exec blocks.blocks blocks.row_blocks blocks.held_blocks
 traces-while_break = refl
 
-pub traces-do_continue : list_exec [] 7 (Do 1 (Continue ∷ []) (num 0) ∷ []) 0 false (store []) ≡ Ends (block 7 0 ∷ block 7 1 ∷ []) (store []) way.Next
+pub traces-do_continue : effect (Do 1 (Continue ∷ []) (num 0) ∷ []) (store []) ≡ Ends (at 0 ∷ at 1 ∷ []) (store []) way.Next
 unfolding eb.shape-the_row-Expr-0 eb.hidden-the_row-Expr-0 sb.shape-the_row-Stmt-0 sb.hidden-the_row-Stmt-0 sb.shape-the_row-Stmt-1 sb.hidden-the_row-Stmt-1 carrier.hidden expressions.val expressions.row_val expressions.type_of expressions.row_type statements.exec statements.row_exec statements.held_exec blocks.blocks blocks.row_blocks blocks.held_blocks
 traces-do_continue = refl
 
-pub traces-undefined_first : list_exec [] 7 (While 1 (num 1) (sets 0 None (Bin bin.Div (num 1) (num 0)) ∷ []) ∷ []) 0 false (store (Unset ty.Int ∷ [])) ≡ Undefined
+pub traces-undefined_first : effect (While 1 (num 1) (sets 0 None (Bin bin.Div (num 1) (num 0)) ∷ []) ∷ []) unset ≡ Undefined
 unfolding eb.shape-the_row-Expr-0 eb.hidden-the_row-Expr-0 sb.shape-the_row-Stmt-0 sb.hidden-the_row-Stmt-0 sb.shape-the_row-Stmt-1 sb.hidden-the_row-Stmt-1 carrier.hidden expressions.val expressions.row_val expressions.type_of expressions.row_type statements.exec statements.row_exec statements.held_exec blocks.blocks blocks.row_blocks blocks.held_blocks
 traces-undefined_first = refl
 
-pub traces-bound_first : list_exec [] 7 (While 1 (num 1) (Empty ∷ []) ∷ sets 0 None (Bin bin.Div (num 1) (num 0)) ∷ []) 0 false (store (Unset ty.Int ∷ [])) ≡ OverBound
+pub traces-bound_first : effect (While 1 (num 1) (Empty ∷ []) ∷ sets 0 None (Bin bin.Div (num 1) (num 0)) ∷ []) unset ≡ OverBound
 unfolding eb.shape-the_row-Expr-0 eb.hidden-the_row-Expr-0 sb.shape-the_row-Stmt-0 sb.hidden-the_row-Stmt-0 sb.shape-the_row-Stmt-1 sb.hidden-the_row-Stmt-1 carrier.hidden expressions.val expressions.row_val expressions.type_of expressions.row_type statements.exec statements.row_exec statements.held_exec blocks.blocks blocks.row_blocks blocks.held_blocks
 traces-bound_first = refl

@@ -1,4 +1,4 @@
--- Stores: what each local and each global has, which is no value yet, a number, or the list of an array. A slot keeps its type.
+-- Stores: what each local and each global has, which is no value yet, a number, or the numbers of an array. A slot keeps its type.
 use Rattle.std.specs.Prelude.{ℕ, ◌-◌, List, ◌++◌, length, replicate, slice_get, slice_set, nat_lt, if◌then◌else◌, Option, Some, None, pos, negsuc}
 use Rattle.c_tree.specs.declared.tree.Ty.{Ty}
 use Rattle.c_tree.specs.declared.tree.Ty.TheVariants as ty
@@ -37,7 +37,7 @@ abbrev pub array_length : Option Slot → ℕ
 array_length (Some (Numbers t vs)) = length vs
 array_length _ = 0
 
--- an index, which is no negative number
+-- an index, which is no negative number (6.5.2.1, 6.5.6 paragraph 8)
 abbrev pub index : Value → Option ℕ
 index (Int (pos n)) = Some n
 index (Int (negsuc n)) = None
@@ -55,7 +55,7 @@ abbrev pub with_slot : Store → Var → Slot → Store
 with_slot s (Local n) x = with_locals s (slice_set s.locals n x)
 with_slot s (Global n) x = with_globals s (slice_set s.globals n x)
 
--- a declaration that is reached: its local has no value (6.2.4 paragraphs 6 and 7)
+-- a declaration that is reached: its local has no value (6.2.4 paragraph 6)
 abbrev pub unset_local : ℕ → Store → Store
 unset_local l s = with_slot s (Local l) (Unset (slot_ty (slice_get s.locals l)))
 

@@ -1,5 +1,5 @@
 -- Worked programs, stores and inputs, for facts about single runs. In the text beside a program its loops' bounds stand in brackets.
-use Rattle.std.specs.Prelude.{ℕ, true, List, [], ◌∷◌, replicate, Option, Some, None, ℤ}
+use Rattle.std.specs.Prelude.{ℕ, true, false, List, [], ◌∷◌, ◌++◌, replicate, Option, Some, None, ℤ, pos, neg_ℤ}
 use Rattle.c_tree.specs.declared.tree.Ty.{Ty}
 use Rattle.c_tree.specs.declared.tree.Ty.TheVariants as ty
 use Rattle.c_tree.specs.declared.tree.UnOp.TheVariants as un
@@ -18,8 +18,12 @@ use Rattle.c_tree.specs.declared.program.Func.{Func}
 use Rattle.c_tree.specs.declared.program.Program.{Program}
 use Rattle.c_tree.specs.declared.program.Costs.{Costs}
 use Rattle.c_tree.specs.declared.program.Input.{Input}
+use Rattle.c_tree.specs.declared.program.BlockName.{BlockName}
+use Rattle.c_tree.specs.declared.value.Value.{Value}
 use Rattle.c_tree.specs.declared.value.Slot.{Slot}
+use Rattle.c_tree.specs.declared.value.Slot.TheVariants.{Unset, Number, Numbers}
 use Rattle.c_tree.specs.declared.value.Store.{Store}
+use Rattle.c_tree.specs.Statements.{Outcome, block, list_exec}
 use Rattle.c_tree.specs.Runs.{Run, Ended, IsUndefined, IsOverBound, run}
 use Rattle.c_tree.specs.Claims.{cost}
 
@@ -70,6 +74,24 @@ input zs = record { values = zs }
 abbrev pub store : List Slot → Store
 store ls = record { locals = ls; globals = [] }
 
+-- a store of one local: unset of type `int`, a number, or an array
+abbrev pub unset : Store
+unset = store (Unset ty.Int ∷ [])
+
+abbrev pub holds : Value → Store
+holds v = store (Number v ∷ [])
+
+abbrev pub lists : Ty → List Value → Store
+lists t vs = store (Numbers t vs ∷ [])
+
+-- the effect of a list in the function number 7, from its block 0
+abbrev pub effect : List Stmt → Store → Outcome
+effect xs s = list_exec [] 7 xs 0 false s
+
+-- the block n of that function
+abbrev pub at : ℕ → BlockName
+at n = block 7 n
+
 -- ---- costs
 
 abbrev pub table : List (List ℕ) → Costs
@@ -99,6 +121,10 @@ unfoldable pub two_thresholds : Program
 two_thresholds =
     main_of 1 2 (declares 1 (num 0) ∷ If (Bin bin.Gt (local 0) (num 10)) (sets 1 None (num 1) ∷ []) [] ∷ If (Bin bin.Lt (local 0) (num 5)) (sets 1 None (num 2) ∷ []) [] ∷ returns (local 1) ∷ [])
 
+-- its costs: 1, but `main:2` 50 and `main:4` 40
+abbrev pub two_thresholds_costs : Costs
+two_thresholds_costs = table ((1 ∷ 1 ∷ 50 ∷ 1 ∷ 40 ∷ 1 ∷ []) ∷ [])
+
 -- `int main(int n) { int i = 0; while [10] (i < n) i++; return i; }`
 unfoldable pub counted_while : Program
 counted_while =
@@ -115,6 +141,10 @@ triangular_loops =
     let inner = For 3 (Some (declares 2 (num 0))) (Bin bin.Lt (local 2) (local 1)) (Some (counts 2)) (sets 0 (Some bin.Add) (num 1) ∷ []) in
     let outer = For 4 (Some (declares 1 (num 0))) (Bin bin.Lt (local 1) (num 4)) (Some (counts 1)) (inner ∷ []) in
     main_of 0 3 (declares 0 (num 0) ∷ outer ∷ returns (local 0) ∷ [])
+
+-- its costs: 10 for the innermost block `main:7`, and 0 for each other
+abbrev pub triangular_loops_costs : Costs
+triangular_loops_costs = table ((replicate 7 0 ++ (10 ∷ 0 ∷ [])) ∷ [])
 
 -- `int main(int x) { int r = 0; if (x + 1 < x) r = 1; return r; }`, or with `unsigned x` and `1u`
 unfoldable pub overflow_guard : Ty → Program
@@ -161,6 +191,10 @@ clamp_filter =
     let sample : Outside = record { name = []; ty = ty.Int; length = Some 4; outer = true; values = [] } in
     let mode : Outside = record { name = []; ty = ty.Int; length = None; outer = true; values = [] } in
     record { globals = sample ∷ mode ∷ []; funcs = clamp ∷ main ∷ []; entry = 1 }
+
+-- its input of four samples of -n and a mode
+abbrev pub samples : ℕ → ℕ → List ℤ
+samples n mode = replicate 4 (neg_ℤ (pos n)) ++ (pos mode ∷ [])
 
 -- its costs: 2, but `main:4` 6, `main:6` 10, `main:8` 14, `clamp:1` 5, `clamp:3` 7 and `clamp:4` 3
 abbrev pub clamp_filter_costs : Costs

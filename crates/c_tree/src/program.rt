@@ -4,7 +4,7 @@ use crate::name::Name;
 use crate::tree::{Stmt, Ty};
 use sqlite_items::Items;
 
-/// A local of a function; an array has a length.
+/// A local of a function, a parameter among them. An array has a length, from 1 to 64.
 #[derive(Drop)]
 pub struct Local {
     pub name: Name,
@@ -12,8 +12,9 @@ pub struct Local {
     pub length: Option<u32>,
 }
 
-/// A variable of file scope. `outer` tells `extern`; `values` are those of its initialiser, in order and
-/// converted to its type.
+/// A variable of file scope. An array has a length, from 1 to 64. `outer` tells `extern`, whose numbers are inputs;
+/// `values` are those of the initialiser, in order and converted to the type. There are none without one, and a short
+/// list stays short.
 #[derive(Drop)]
 pub struct Global {
     pub name: Name,
@@ -23,7 +24,7 @@ pub struct Global {
     pub values: Items<i64>,
 }
 
-/// A function. Its first `params` locals are its parameters.
+/// A function. `result` is None for `void`. Its first `params` locals are its parameters.
 #[derive(Drop)]
 pub struct Func {
     pub name: Name,
@@ -48,13 +49,14 @@ pub struct BlockName {
     pub number: u32,
 }
 
-/// The cost of each block: a list a function, with a number a block.
+/// The cost of each block: a list for each function, with a number for each of its blocks.
 #[derive(Drop)]
 pub struct Costs {
     pub by_func: Items<Items<u32>>,
 }
 
-/// The input numbers of a run.
+/// The input numbers of a run: those of the entry function's parameters in order, then those of the extern variables, an
+/// array element by element. Each lies in the range of its type.
 #[derive(Drop)]
 pub struct Input {
     pub values: Items<i64>,

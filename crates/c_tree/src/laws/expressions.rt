@@ -11,35 +11,36 @@ ghost use Rattle.c_tree.specs.declared.value.Value.TheVariants.{Unsigned};
 ghost use Rattle.c_tree.specs.declared.value.Slot.TheVariants.{Unset, Number, Numbers};
 ghost use Rattle.c_tree.specs.Literals.{plus, minus};
 ghost use Rattle.c_tree.specs.Expressions.{type_of, val};
-ghost use Rattle.c_tree.specs.Worked.{num, local, store};
+ghost use Rattle.c_tree.specs.Worked.{num, local, store, unset, holds, lists};
 
 /// A name and an element have what the store has; an unset name and an element outside the array are undefined.
 pub fn reads()
-    ensures number { val (local 0) (store (Number (minus 31) ∷ [])) ≡ Some (minus 31) }
-    ensures unset { val (local 0) (store (Unset ty.Int ∷ [])) ≡ None }
-    ensures element { val (Elem (Local 0) (num 1)) (store (Numbers ty.Int (plus 31 ∷ plus 32 ∷ []) ∷ [])) ≡ Some (plus 32) }
-    ensures at_length { val (Elem (Local 0) (num 2)) (store (Numbers ty.Int (plus 31 ∷ plus 32 ∷ []) ∷ [])) ≡ None }
-    ensures below { val (Elem (Local 0) (Un un.Minus (num 1))) (store (Numbers ty.Int (plus 31 ∷ []) ∷ [])) ≡ None }
-    ensures far { val (Elem (Local 0) (Num ty.Unsigned 4294967295)) (store (Numbers ty.Int (plus 31 ∷ []) ∷ [])) ≡ None }
-    ensures unset_array { val (Elem (Local 0) (num 0)) (store (Unset ty.Int ∷ [])) ≡ None }
+    ensures number { val (local 0) (holds (minus 31)) ≡ Some (minus 31) }
+    ensures unset { val (local 0) unset ≡ None }
+    ensures element { val (Elem (Local 0) (num 1)) (lists ty.Int (plus 31 ∷ plus 32 ∷ [])) ≡ Some (plus 32) }
+    ensures at_length { val (Elem (Local 0) (num 2)) (lists ty.Int (plus 31 ∷ plus 32 ∷ [])) ≡ None }
+    ensures below { val (Elem (Local 0) (Un un.Minus (num 1))) (lists ty.Int (plus 31 ∷ [])) ≡ None }
+    ensures far { val (Elem (Local 0) (Num ty.Unsigned 4294967295)) (lists ty.Int (plus 31 ∷ [])) ≡ None }
+    ensures unset_array { val (Elem (Local 0) (num 0)) unset ≡ None }
 {}
 
 /// `(int)e` and `(unsigned)e` (C11 6.5.4).
 pub fn casts()
     ensures to_int { val (Cast ty.Int (Num ty.Unsigned 4294967295)) (store []) ≡ Some (minus 1) }
     ensures to_unsigned { val (Cast ty.Unsigned (Un un.Minus (num 1))) (store []) ≡ Some (Unsigned 4294967295) }
-    ensures of_undefined { val (Cast ty.Int (local 0)) (store (Unset ty.Int ∷ [])) ≡ None }
+    ensures of_undefined { val (Cast ty.Int (local 0)) unset ≡ None }
 {}
 
 /// `c ? a : b` (C11 6.5.15): only the chosen one is evaluated, and converted to the common type of both.
 pub fn choices()
     // -1 chosen beside 0u is 2^32 - 1
-    ensures converted { val (Cond (num 1) (Un un.Minus (num 1)) (Num ty.Unsigned 0)) (store []) ≡ Some (Unsigned 4294967295) }
+    ensures converted { val (Cond (num 1) (Un un.Minus (num 1)) (Num ty.Unsigned 0)) (store [])
+        ≡ Some (Unsigned 4294967295) }
     ensures second { val (Cond (num 0) (Bin bin.Div (num 1) (num 0)) (num 32)) (store []) ≡ Some (plus 32) }
     ensures first { val (Cond (Num ty.Unsigned 2147483648) (num 31) (Bin bin.Div (num 1) (num 0))) (store [])
         ≡ Some (plus 31) }
-    ensures undefined_condition { val (Cond (local 0) (num 1) (num 1)) (store (Unset ty.Int ∷ [])) ≡ None }
-    ensures undefined_choice { val (Cond (num 1) (local 0) (num 1)) (store (Unset ty.Int ∷ [])) ≡ None }
+    ensures undefined_condition { val (Cond (local 0) (num 1) (num 1)) unset ≡ None }
+    ensures undefined_choice { val (Cond (num 1) (local 0) (num 1)) unset ≡ None }
 {}
 
 /// The right operand of `&&` and `||` is evaluated only where the left does not decide; of the others both are.

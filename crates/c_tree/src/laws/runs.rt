@@ -7,11 +7,11 @@ ghost use Rattle.c_tree.specs.declared.tree.Var.TheVariants.{Local};
 ghost use Rattle.c_tree.specs.declared.tree.Target.TheVariants as target;
 ghost use Rattle.c_tree.specs.declared.tree.Stmt.TheVariants.{Call};
 ghost use Rattle.c_tree.specs.Runs.{run, IsUndefined, IsOverBound};
-ghost use Rattle.c_tree.specs.Worked.{num, ones, table, input, cost_at};
-ghost use Rattle.c_tree.specs.Worked.{return_of_zero, two_thresholds, overflow_guard};
-ghost use Rattle.c_tree.specs.Worked.{counted_while, counted_do, triangular_loops};
+ghost use Rattle.c_tree.specs.Worked.{num, ones, input, cost_at};
+ghost use Rattle.c_tree.specs.Worked.{return_of_zero, two_thresholds, two_thresholds_costs, overflow_guard};
+ghost use Rattle.c_tree.specs.Worked.{counted_while, counted_do, triangular_loops, triangular_loops_costs};
 ghost use Rattle.c_tree.specs.Worked.{division_by_zero, returned, guarded_division, masked_index};
-ghost use Rattle.c_tree.specs.Worked.{missing_result, clamp_filter, clamp_filter_costs};
+ghost use Rattle.c_tree.specs.Worked.{missing_result, clamp_filter, clamp_filter_costs, samples};
 ghost use Rattle.c_tree.specs.Worked.{one_or_x, own_initialiser, initialised_by_call};
 
 /// Runs without a loop.
@@ -20,9 +20,9 @@ pub fn straight_runs()
     ensures return_of_zero { cost_at return_of_zero ones [] ≡ Some 1 }
 
     // the blocks 0, 1, 3 and 5 once; above 10 also 2, which costs 50, and below 5 also 4, which costs 40
-    ensures between { cost_at two_thresholds (table ((1 ∷ 1 ∷ 50 ∷ 1 ∷ 40 ∷ 1 ∷ []) ∷ [])) (pos 7 ∷ []) ≡ Some 4 }
-    ensures above { cost_at two_thresholds (table ((1 ∷ 1 ∷ 50 ∷ 1 ∷ 40 ∷ 1 ∷ []) ∷ [])) (pos 11 ∷ []) ≡ Some 54 }
-    ensures below { cost_at two_thresholds (table ((1 ∷ 1 ∷ 50 ∷ 1 ∷ 40 ∷ 1 ∷ []) ∷ [])) (pos 4 ∷ []) ≡ Some 44 }
+    ensures between { cost_at two_thresholds two_thresholds_costs (pos 7 ∷ []) ≡ Some 4 }
+    ensures above { cost_at two_thresholds two_thresholds_costs (pos 11 ∷ []) ≡ Some 54 }
+    ensures below { cost_at two_thresholds two_thresholds_costs (pos 4 ∷ []) ≡ Some 44 }
 
     // an `int` that overflows is undefined; an `unsigned` wraps, so that 0 < 2^32 - 1
     ensures no_overflow { cost_at (overflow_guard ty.Int) ones (pos 5 ∷ []) ≡ Some 3 }
@@ -43,7 +43,7 @@ pub fn loop_runs()
     ensures do_over { run counted_do (input (pos 4 ∷ [])) ≡ IsOverBound }
 
     // the innermost block is the 8th, and is entered 0 + 1 + 2 + 3 times
-    ensures triangle { cost_at triangular_loops (table ((0 ∷ 0 ∷ 0 ∷ 0 ∷ 0 ∷ 0 ∷ 0 ∷ 10 ∷ 0 ∷ []) ∷ [])) [] ≡ Some 60 }
+    ensures triangle { cost_at triangular_loops triangular_loops_costs [] ≡ Some 60 }
 {}
 
 /// Runs into what is undefined.
@@ -71,8 +71,7 @@ pub fn call_runs()
 
     // four turns of 2 + 6 + (2 + 2 + 7) + 2 + 2 + 14 + 2 = 39, and the declarations, `i = 0`, the last condition and the
     // return, each 2
-    ensures filter { cost_at clamp_filter clamp_filter_costs (neg_ℤ (pos 200) ∷ neg_ℤ (pos 200) ∷ neg_ℤ (pos 200) ∷ neg_ℤ (pos 200) ∷ pos 2 ∷ [])
-        ≡ Some 164 }
+    ensures filter { cost_at clamp_filter clamp_filter_costs (samples 200 2) ≡ Some 164 }
 {}
 
 /// A local is unset each time its declaration is reached, in its own initialiser too.

@@ -9,8 +9,5 @@ ghost use Rattle.c_tree.specs.Runs.{run, Ended};
 
 /// The trace of a run has only blocks of the program.
 pub fn traces_name_blocks()
-    ensures {
-        (p : Program) (i : Input) (u : List BlockName) → run p i ≡ Ended u → AreBlocksOf p.funcs u
-    }
-{
-}
+    ensures { (p : Program) (i : Input) (u : List BlockName) → run p i ≡ Ended u → AreBlocksOf p.funcs u }
+{}

@@ -13,19 +13,13 @@ pub fn well_formed_programs()
     ensures counted { WellFormed counted_while }
     ensures triangle { WellFormed triangular_loops }
     ensures filter { WellFormed clamp_filter }
-{
-}
+{}
 
 /// No `break` or `continue` stands outside a loop, no `do` has the bound 0, and no function calls itself or one below.
 pub fn ill_formed_statements()
     ensures stray_break { (c : Context) → ¬ WellFormedStmt c false Break }
     ensures stray_continue { (c : Context) → ¬ WellFormedStmt c false Continue }
-    ensures bound_of_zero {
-        (c : Context) (looped : Bool) (xs : List Stmt) (e : Expr) → ¬ WellFormedStmt c looped (Do 0 xs e)
-    }
-    ensures no_callee {
-        (c : Context) (looped : Bool) (t : Target) (g : ℕ) (es : List Expr)
-            → slice_get c.above g ≡ None → ¬ WellFormedStmt c looped (Call t g es)
-    }
-{
-}
+    ensures bound_of_zero { (c : Context) (looped : Bool) (xs : List Stmt) (e : Expr) → ¬ WellFormedStmt c looped (Do 0 xs e) }
+    ensures no_callee { (c : Context) (looped : Bool) (t : Target) (g : ℕ) (es : List Expr)
+        → slice_get c.above g ≡ None → ¬ WellFormedStmt c looped (Call t g es) }
+{}
