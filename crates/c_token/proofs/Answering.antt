@@ -1,5 +1,5 @@
 -- An answer that holds is the only one.
-use Rattle.std.proofs.Common.{◌≡◌, ℕ, List, length, take, drop, Option, Some, None, Result, Ok, Err, refl, sym, ◌∙◌, ap, subst}
+use Rattle.std.proofs.Common.{◌≡◌, ℕ, List, length, Some, None, Result, Ok, Err, refl, ◌∙◌, ap, subst}
 use Rattle.std.specs.Prelude.{◌↔◌, MatchResult, IsOkAnd}
 use Rattle.c_tree.specs.declared.token.Token.{Token}
 use Rattle.c_tree.specs.Lexing.{Lexes}
@@ -10,7 +10,7 @@ use Rattle.c_token.specs.declared.piece.Flaw.TheVariants as flaws
 use Rattle.c_token.specs.Pieces.{IsFlaw}
 use Rattle.c_token.specs.Faults.{StopsAt}
 use Rattle.c_token.specs.Answers.{IsFault, UnlessNoMemory, fault_of}
-use Rattle.c_token.proofs.Reaching.{AreSame, reached_once}
+use Rattle.c_token.proofs.Reaching.{reached_once}
 
 -- the answer holds of the text
 abbrev pub Answers : {V : Type 0} → (V → List Token) → List ℕ → Result V TokenFault → Type 0

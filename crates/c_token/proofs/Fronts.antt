@@ -1,12 +1,11 @@
 -- The longest front of a list that passes a test, and the first byte of a token.
-use Rattle.std.proofs.Common.{◌≡◌, ℕ, zero, suc, ◌+◌, ◌<◌, ◌≤◌, Bool, true, false, cond, not, ◌&&◌, ◌||◌, eqb, ltb, leb, List, [], ◌∷◌, length, take, refl, sym, ◌∙◌, ap, arith, one-add, add-one}
+use Rattle.std.proofs.Common.{◌≡◌, ℕ, zero, suc, ◌+◌, ◌<◌, ◌≤◌, Bool, true, false, cond, not, ◌&&◌, ◌||◌, eqb, List, [], ◌∷◌, length, take, refl, sym, arith, one-add, add-one}
 use Rattle.std.specs.Prelude.{bytes_eq}
-use Rattle.std.specs.List.{list_all, list_any, prefix_len}
-use Rattle.std.specs.Char.{is_ascii_digit, is_ascii_alphabetic}
+use Rattle.std.specs.List.{list_all, prefix_len}
 use Rattle.std.proofs.lemmas.Bool.Decides.{nat_tests}
 use Rattle.std.proofs.lemmas.Slice.Eq.{bytes_eq-Decides}
-use Rattle.c_tree.specs.Characters.{begins, is_blank, is_digit, is_nondigit, is_name_byte, is_sign, is_exponent}
-use Rattle.c_tree.specs.Lexemes.{is_among, keywords, marks, is_name, is_number_run, continues_number, could_be_token}
+use Rattle.c_tree.specs.Characters.{begins, is_blank, is_digit, is_nondigit}
+use Rattle.c_tree.specs.Lexemes.{is_among, keywords, marks, continues_number}
 use Rattle.c_token.specs.Lengths.{continues, number_length}
 
 pub both_true : (a b : Bool) → (a && b) ≡ true → (a ≡ true) × (b ≡ true)

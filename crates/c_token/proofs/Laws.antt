@@ -1,10 +1,10 @@
 -- Where the tokens of a text lie.
-use Rattle.std.proofs.Common.{◌≡◌, ℕ, ◌+◌, ◌<◌, ◌≤◌, List, [], ◌∷◌, length, take, drop, refl, sym, ap, subst, arith, length-drop}
+use Rattle.std.proofs.Common.{ℕ, ◌+◌, ◌≤◌, List, [], ◌∷◌, length, take, drop, refl, arith}
 use Rattle.c_tree.specs.declared.token.Token.{Token}
-use Rattle.c_tree.specs.Lexing.{Separates, IsToken, Reaches, nothing, gap, token, Lexes}
+use Rattle.c_tree.specs.Lexing.{Separates, Reaches, nothing, gap, token}
 use Rattle.c_tree.specs.Places.{AreInOrder, AreSeparated}
-use Rattle.c_token.specs.declared.piece.Piece.TheVariants.{Gap, Lexeme}
-use Rattle.c_token.proofs.Sizes.{Fits, piece_fits}
+use Rattle.c_token.specs.declared.piece.Piece.TheVariants.{Lexeme}
+use Rattle.c_token.proofs.Sizes.{piece_fits}
 
 -- from a later place they lie in order all the more
 earlier : (a b : ℕ) (ts : List Token) (to : ℕ) → a ≤ b → AreInOrder b ts to → AreInOrder a ts to

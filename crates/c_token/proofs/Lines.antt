@@ -1,5 +1,5 @@
 -- Where lines end.
-use Rattle.std.proofs.Common.{◌≡◌, ℕ, ◌+◌, ◌-◌, ◌<◌, ◌≤◌, Bool, true, false, not, List, length, take, drop, get_or, Option, Some, None, refl, sym, ◌∙◌, ap, arith}
+use Rattle.std.proofs.Common.{◌≡◌, ℕ, ◌+◌, ◌-◌, ◌<◌, Bool, true, false, not, List, length, take, drop, get_or, Some, None, refl, ◌∙◌, ap, arith}
 use Rattle.std.specs.List.{after_last, suffix_len}
 use Rattle.std.proofs.lemmas.List.{take_all}
 use Rattle.std.proofs.lemmas.List.Sums.{position_or_len_is, suffix_len_is}
@@ -43,6 +43,7 @@ last_from_feed before feed found =
   where
     same : feed + 1 - 1 ≡ feed
     same = omega arith
+
     at_feed : not (is_line_feed (get_or before (feed + 1 - 1) 0)) ≡ false
     at_feed = rw (same, found.1) refl
 

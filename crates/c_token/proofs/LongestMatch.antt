@@ -1,10 +1,7 @@
 -- The longest token that begins with a byte, and what it is.
-use Rattle.std.proofs.Common.{◌≡◌, ℕ, zero, suc, ◌+◌, ◌<◌, ◌≤◌, Bool, true, false, cond, not, ◌&&◌, ◌||◌, List, [], ◌∷◌, length, take, Option, Some, None, MatchOption, refl, sym, ◌∙◌, ap, subst, arith, one-add, add-one}
-use Rattle.std.specs.Prelude.{bytes_eq}
+use Rattle.std.proofs.Common.{◌≡◌, ℕ, zero, suc, ◌+◌, ◌<◌, ◌≤◌, Bool, true, false, cond, ◌||◌, List, [], ◌∷◌, length, take, Option, Some, None, MatchOption, refl, sym, ◌∙◌, arith, one-add, add-one}
 use Rattle.std.specs.List.{list_all, prefix_len}
 use Rattle.std.proofs.lemmas.List.Sums.{prefix_len-le-length}
-use Rattle.std.proofs.lemmas.Bool.Decides.{nat_tests}
-use Rattle.c_tree.specs.declared.token.Kind.{Kind}
 use Rattle.c_tree.specs.declared.token.Kind.TheVariants.{Word, Name, Mark}
 use Rattle.c_tree.specs.Characters.{begins, is_digit, is_nondigit, is_name_byte}
 use Rattle.c_tree.specs.Lexemes.{is_among, keywords, marks, is_name, is_number_run, continues_number, could_be_token, constant_of, kind_of}
@@ -12,7 +9,7 @@ use Rattle.c_tree.specs.Lexing.{IsLongest}
 use Rattle.c_token.specs.Faults.{HasNoToken, IsBadNumber}
 use Rattle.c_token.specs.Lengths.{continues, number_length}
 use Rattle.c_token.specs.Marks.{first_length, mark_length}
-use Rattle.c_token.proofs.Fronts.{both_true, all_front, all_beyond, number_front, number_beyond, nondigit_is_no_digit, is_among-front, begins_mark, marks_begin, keywords_begin}
+use Rattle.c_token.proofs.Fronts.{all_front, all_beyond, number_front, number_beyond, nondigit_is_no_digit, is_among-front, begins_mark, marks_begin, keywords_begin}
 use Rattle.c_token.proofs.MarkTable.{IsLongestEntry, mark_length-longest}
 
 or_false : (a : Bool) → (a || false) ≡ a
@@ -72,10 +69,10 @@ no_token_empty = refl
 
 longest_name : (c : ℕ) (cs : List ℕ) → is_nondigit c ≡ true → IsLongest (c ∷ cs) (prefix_len is_name_byte (c ∷ cs))
 longest_name c cs e = rw (nondigit_in_name c e, one-add) (record {
-    within = let le = prefix_len-le-length is_name_byte cs in omega arith;
-    could_be = token_nondigit c (take (prefix_len is_name_byte cs) cs) e ∙ all_front is_name_byte cs;
-    longest = longer;
-  })
+  within = let le = prefix_len-le-length is_name_byte cs in omega arith;
+  could_be = token_nondigit c (take (prefix_len is_name_byte cs) cs) e ∙ all_front is_name_byte cs;
+  longest = longer;
+})
   where
     longer : (m : ℕ) → suc (prefix_len is_name_byte cs) < m → m ≤ length (c ∷ cs) → could_be_token (take m (c ∷ cs)) ≡ false
     longer zero more within = absurd (omega arith)
@@ -96,10 +93,10 @@ number_length-first c cs e = rw (e, add-one) refl
 
 longest_number : (c : ℕ) (cs : List ℕ) → is_nondigit c ≡ false → is_digit c ≡ true → IsLongest (c ∷ cs) (number_length 0 (c ∷ cs))
 longest_number c cs e f = rw (number_length-first c cs (digit_in_name c e f)) (record {
-    within = let le = number_length-le c cs in omega arith;
-    could_be = token_digit c (take (number_length c cs) cs) e f ∙ number_front c cs;
-    longest = longer;
-  })
+  within = let le = number_length-le c cs in omega arith;
+  could_be = token_digit c (take (number_length c cs) cs) e f ∙ number_front c cs;
+  longest = longer;
+})
   where
     longer : (m : ℕ) → suc (number_length c cs) < m → m ≤ length (c ∷ cs) → could_be_token (take m (c ∷ cs)) ≡ false
     longer zero more within = absurd (omega arith)
@@ -117,6 +114,7 @@ longest_mark c cs e f = by_result (mark_length (c ∷ cs)) (mark_length-longest 
     not_true : (b : Bool) → (b ≡ true → ⊥) → b ≡ false
     not_true true h = absurd (h refl)
     not_true false h = refl
+
     by_result : (r : Option ℕ) → MatchOption r ((m : ℕ) → m ≤ length (c ∷ cs) → is_among marks (take m (c ∷ cs)) ≡ false) (IsLongestEntry marks (c ∷ cs)) → MatchOption r (HasNoToken (c ∷ cs)) (IsLongest (c ∷ cs))
     by_result None none = λ m within. front_mark c cs m e f ∙ none m within
     by_result (Some n) found = record {

@@ -1,12 +1,12 @@
 -- The value of a numeral, digit by digit.
-use Rattle.std.proofs.Common.{◌≡◌, ℕ, ◌+◌, ◌*◌, ◌^◌, ◌<◌, ◌≤◌, Bool, true, false, cond, not, eqb, ltb, leb, ◌&&◌, List, [], ◌∷◌, length, drop, get_or, Option, Some, None, refl, sym, ◌∙◌, ap, subst, arith, lt-ltb, le-ltb}
+use Rattle.std.proofs.Common.{◌≡◌, ℕ, ◌+◌, ◌*◌, ◌^◌, ◌<◌, ◌≤◌, Bool, true, false, cond, not, eqb, ltb, ◌&&◌, List, [], ◌∷◌, length, drop, get_or, Option, Some, None, refl, sym, ◌∙◌, arith, lt-ltb, le-ltb}
 use Rattle.std.specs.Prelude.{option_and_then}
 use Rattle.std.proofs.lemmas.Bool.{ltb-false}
 use Rattle.std.specs.List.{list_all}
 use Rattle.std.specs.Char.{digit_value}
 use Rattle.std.specs.Str.Parse.{digits_value, digits_value_after}
 use Rattle.std.proofs.Math.ListN.{drop_of_length-le}
-use Rattle.std.proofs.Math.Nat.{mul-le-mul_left, mul_comm}
+use Rattle.std.proofs.Math.Nat.{mul-le-mul_left}
 use Rattle.std.proofs.lemmas.List.{at_drop_more}
 use Rattle.c_tree.specs.Lexemes.{is_numeral, base_of, digits_of, typed, constant_in}
 use Rattle.c_tree.specs.declared.token.Kind.TheVariants.{Number}
@@ -73,6 +73,7 @@ constant_in_held suffixed bytes r is = rw is (by_tests (is_numeral (base_of byte
   where
     value : ℕ
     value = digits_value (base_of bytes) (digits_of bytes)
+
     by_tests : (numeral small : Bool) → ltb value (2 ^ 64) ≡ small
         → cond numeral (typed suffixed (base_of bytes) value) None ≡ option_and_then (typed suffixed (base_of bytes)) (cond (numeral && small) (Some value) None)
     by_tests true true e = refl

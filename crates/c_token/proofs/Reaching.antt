@@ -1,11 +1,10 @@
 -- Going on from place to place.
-use Rattle.std.proofs.Common.{◌≡◌, ℕ, ◌+◌, ◌-◌, ◌<◌, ◌≤◌, Bool, true, false, List, [], ◌∷◌, ◌++◌, length, take, drop, Option, Some, None, Result, Ok, Err, refl, sym, ◌∙◌, ap, subst, arith, length-take, length-drop, append_assoc}
-use Rattle.std.proofs.lemmas.List.{drop_all}
+use Rattle.std.proofs.Common.{◌≡◌, ℕ, ◌+◌, List, [], ◌∷◌, ◌++◌, length, take, drop, Option, Some, None, Ok, Err, refl, sym, ◌∙◌, ap, subst, arith, length-drop}
 use Rattle.std.specs.Prelude.{MatchOption}
 use Rattle.std.specs.Option.{option_to_list}
 use Rattle.c_tree.specs.declared.token.Kind.{Kind}
 use Rattle.c_tree.specs.declared.token.Token.{Token}
-use Rattle.c_tree.specs.Lexing.{Separates, IsToken, Reaches, nothing, gap, token, Lexes}
+use Rattle.c_tree.specs.Lexing.{Separates, IsToken, Reaches, nothing, gap, token}
 use Rattle.c_token.specs.declared.piece.Piece.{Piece}
 use Rattle.c_token.specs.declared.piece.Piece.TheVariants.{Gap, Lexeme}
 use Rattle.c_token.specs.declared.piece.Flaw.{Flaw}

@@ -1,16 +1,15 @@
 -- How long what stands at a place is.
-use Rattle.std.proofs.Common.{◌≡◌, ℕ, zero, suc, ◌+◌, ◌-◌, ◌<◌, ◌≤◌, Bool, true, false, cond, not, ◌&&◌, List, [], ◌∷◌, length, take, drop, Option, Some, None, Ok, codes, refl, sym, ◌∙◌, ap, subst, arith, length-take, length-drop, one-add}
-use Rattle.std.specs.List.{prefix_len, position_or_len}
-use Rattle.std.proofs.lemmas.List.Sums.{prefix_len-le-length}
+use Rattle.std.proofs.Common.{◌≡◌, ℕ, zero, suc, ◌+◌, ◌<◌, ◌≤◌, Bool, true, false, List, [], ◌∷◌, length, take, drop, Ok, arith, length-take, length-drop, one-add}
+use Rattle.std.specs.List.{position_or_len}
 use Rattle.c_tree.specs.declared.token.Kind.{Kind}
 use Rattle.c_tree.specs.Characters.{begins, begins_with, is_blank, is_line_feed}
 use Rattle.c_tree.specs.Lexemes.{could_be_token}
-use Rattle.c_tree.specs.Lexing.{IsLongest, opens_block_comment, opens_line_comment, opens_directive, IsBlockComment, line_of, IsLineComment, directive_of, Separates, blank, block_comment, line_comment, skipped_line, IsLexeme, IsBound, IsToken, spelled, bound, operand_of, operand_rest}
+use Rattle.c_tree.specs.Lexing.{opens_block_comment, opens_line_comment, opens_directive, IsBlockComment, line_of, IsLineComment, directive_of, Separates, blank, block_comment, line_comment, skipped_line, IsToken, spelled, bound}
 use Rattle.c_token.specs.declared.piece.Piece.{Piece}
 use Rattle.c_token.specs.declared.piece.Piece.TheVariants.{Gap, Lexeme}
 use Rattle.c_token.specs.declared.piece.Flaw.{Flaw}
 use Rattle.c_token.specs.declared.piece.Flaw.TheVariants.{Byte, Comment, Number, Directive}
-use Rattle.c_token.specs.Pieces.{IsPiece, IsFlaw, Stands, size_of}
+use Rattle.c_token.specs.Pieces.{IsFlaw, Stands, size_of}
 use Rattle.c_token.proofs.Beginnings.{front_fails, directive_begins}
 use Rattle.c_token.proofs.Comments.{closes_fits}
 use Rattle.c_token.proofs.LongestMatch.{no_token_empty}

@@ -1,24 +1,22 @@
 -- One thing stands at a place.
-use Rattle.std.proofs.Common.{◌≡◌, ℕ, ◌+◌, ◌-◌, ◌<◌, ◌≤◌, Bool, true, false, cond, not, ◌&&◌, ◌||◌, ltb, List, [], ◌∷◌, length, take, drop, Option, Some, None, Result, Ok, Err, codes, refl, sym, ◌∙◌, ap, subst, arith, length-take, length-drop}
+use Rattle.std.proofs.Common.{◌≡◌, ℕ, ◌+◌, ◌<◌, ◌≤◌, Bool, true, false, cond, List, [], ◌∷◌, length, take, Some, Result, Ok, Err, codes, refl, sym, ◌∙◌, ap, subst, arith}
 use Rattle.std.proofs.Common.{◌⊎◌, inl, inr}
 use Rattle.std.proofs.lemmas.Bool.{cases_lt}
 use Rattle.std.specs.Prelude.{bytes_eq, take_while}
 use Rattle.std.proofs.lemmas.List.Sums.{take_while-cons}
 use Rattle.std.proofs.lemmas.Slice.Eq.{bytes_eq-Decides}
-use Rattle.std.specs.Str.Parse.{digits_value}
 use Rattle.c_tree.specs.declared.token.Kind.{Kind}
-use Rattle.c_tree.specs.declared.token.Kind.TheVariants.{Bound}
-use Rattle.c_tree.specs.Characters.{begins, begins_with, is_blank, is_digit, is_name_byte}
-use Rattle.c_tree.specs.Lexemes.{could_be_token, is_number_run, kind_of}
-use Rattle.c_tree.specs.Lexing.{IsLongest, opens_block_comment, opens_line_comment, opens_directive, closes_at, IsBlockComment, line_of, IsLineComment, directive_of, after_spaces, word_of, is_marker, after_word, is_pragma, is_loopbound, is_skipped, is_bound_operand, is_bound_line, operand_of, operand_digits, operand_rest, Separates, blank, block_comment, line_comment, skipped_line, IsLexeme, IsBound, IsToken, spelled, bound}
+use Rattle.c_tree.specs.Characters.{begins, is_blank, is_digit, is_name_byte}
+use Rattle.c_tree.specs.Lexemes.{kind_of}
+use Rattle.c_tree.specs.Lexing.{IsLongest, opens_block_comment, opens_line_comment, opens_directive, IsBlockComment, line_of, directive_of, after_spaces, word_of, is_marker, after_word, is_pragma, is_loopbound, is_skipped, is_bound_operand, is_bound_line, operand_of, Separates, blank, block_comment, line_comment, skipped_line, IsLexeme, IsBound, IsToken, spelled, bound}
 use Rattle.c_token.specs.declared.piece.Piece.{Piece}
 use Rattle.c_token.specs.declared.piece.Piece.TheVariants.{Gap, Lexeme}
 use Rattle.c_token.specs.declared.piece.Flaw.{Flaw}
 use Rattle.c_token.specs.declared.piece.Flaw.TheVariants.{Byte, Comment, Number, Directive}
-use Rattle.c_token.specs.Faults.{HasNoToken, IsStrayByte, IsOpenComment, IsBadNumber, IsBadDirective}
-use Rattle.c_token.specs.Pieces.{IsPiece, IsFlaw, Stands}
+use Rattle.c_token.specs.Faults.{IsStrayByte, IsOpenComment, IsBadNumber, IsBadDirective}
+use Rattle.c_token.specs.Pieces.{IsFlaw, Stands}
 use Rattle.c_token.proofs.Fronts.{both_true}
-use Rattle.c_token.proofs.Beginnings.{IsHash, block_no_blank, line_no_blank, not_both_comments, directive_is_hash, lexeme_no_blank, lexeme_no_directive, number_no_block_comment, number_no_line_comment, block_is_token, line_is_token}
+use Rattle.c_token.proofs.Beginnings.{block_no_blank, line_no_blank, not_both_comments, directive_is_hash, lexeme_no_blank, lexeme_no_directive, number_no_block_comment, number_no_line_comment, block_is_token, line_is_token}
 
 data Sort : Type 0 where
   at_blank : Sort

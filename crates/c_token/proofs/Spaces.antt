@@ -1,11 +1,8 @@
 -- The bytes outside the tokens, token by token.
-use Rattle.std.proofs.Common.{◌≡◌, ℕ, ◌+◌, ◌<◌, ◌≤◌, true, false, List, [], ◌∷◌, length, drop, get_or, refl, sym, ◌∙◌, subst, arith}
-use Rattle.std.specs.Prelude.{slice_range, slice_get, Some}
-use Rattle.std.specs.List.{list_all}
+use Rattle.std.proofs.Common.{ℕ, ◌+◌, ◌<◌, ◌≤◌, List, [], ◌∷◌, length, drop, get_or, arith}
 use Rattle.std.proofs.lemmas.List.{drop_more}
 use Rattle.c_tree.specs.declared.token.Token.{Token}
-use Rattle.c_tree.specs.Characters.{is_blank}
-use Rattle.c_tree.specs.Places.{AreInOrder, AreBlankOutside}
+use Rattle.c_tree.specs.Places.{AreInOrder}
 
 pub in_order_le : (from : ℕ) (ts : List Token) (to : ℕ) → AreInOrder from ts to → from ≤ to
 in_order_le from [] to h = h

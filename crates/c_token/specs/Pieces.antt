@@ -1,5 +1,5 @@
 -- What stands at a place of a text.
-use Rattle.std.specs.Prelude.{◌≡◌, ℕ, ◌≤◌, ◌<◌, false, List, length, Option, Some, None, Result, MatchResult}
+use Rattle.std.specs.Prelude.{◌≡◌, ℕ, false, List, Option, Some, None, Result, MatchResult}
 use Rattle.c_tree.specs.declared.token.Token.{Token}
 use Rattle.c_tree.specs.Characters.{begins, is_blank}
 use Rattle.c_tree.specs.Lexing.{Separates, IsToken, opens_block_comment, opens_line_comment, opens_directive}

@@ -28,8 +28,8 @@ pub(crate) enum Directive {
     Other,
 }
 
-#[tactic(auto, unfolding(c_tree::specs::Lexing::opens_directive))]
 /// Whether a `#` stands here with only spaces and tabs before it on its line.
+#[tactic(auto, unfolding(c_tree::specs::Lexing::opens_directive))]
 pub(crate) fn opens_directive(before: &[u8], here: &[u8]) -> bool
     ensures { result ≡ lexing.opens_directive before.now here.now }
 {
@@ -65,7 +65,10 @@ fn spaces_length(bytes: &[u8]) -> usize
     ensures value { result ≡ prefix_len class.is_space_or_tab bytes.now }
     ensures within { result ≤ length bytes.now }
 {
-    bytes.iter().take_while(|byte| is_space_or_tab(**byte)).count()
+    bytes
+        .iter()
+        .take_while(|byte| is_space_or_tab(**byte))
+        .count()
 }
 
 /// How many digits stand first.
@@ -143,13 +146,18 @@ fn operand_of(line: &[u8]) -> &[u8]
 fn carriage_returns(bytes: &[u8]) -> usize
     ensures { result ≡ count_by class.is_carriage_return bytes.now }
 {
-    bytes.iter().filter(|byte| is_carriage_return(**byte)).count()
+    bytes
+        .iter()
+        .filter(|byte| is_carriage_return(**byte))
+        .count()
 }
 
 fn is_spacing(bytes: &[u8]) -> bool
     ensures { result ≡ list_all (λ c. class.is_space_or_tab c || class.is_carriage_return c) bytes.now }
 {
-    bytes.iter().all(|byte| is_space_or_tab(*byte) || is_carriage_return(*byte))
+    bytes
+        .iter()
+        .all(|byte| is_space_or_tab(*byte) || is_carriage_return(*byte))
 }
 
 /// Whether only spaces, tabs and at most one carriage return stand here.

@@ -9,19 +9,16 @@ ghost use Rattle.c_tree.specs.Places.{AreInOrder, AreSeparated};
 #[tactic(auto, using(crate::proofs::Answering::lexed_once))]
 pub fn one_reading()
     ensures { (text : List ℕ) (ts us : List Token) → Lexes text ts → Lexes text us → ts ≡ us }
-{
-}
+{}
 
 /// The tokens of a text are not empty, lie in order and within the text, and do not overlap.
 #[tactic(auto, using(crate::proofs::Laws::reached_in_order))]
 pub fn in_order()
     ensures { (text : List ℕ) (ts : List Token) → Lexes text ts → AreInOrder 0 ts (length text) }
-{
-}
+{}
 
 /// Before, between and behind the tokens of a text only separators stand.
 #[tactic(auto, using(crate::proofs::Laws::reached_separated))]
 pub fn separated()
     ensures { (text : List ℕ) (ts : List Token) → Lexes text ts → AreSeparated text 0 ts }
-{
-}
+{}

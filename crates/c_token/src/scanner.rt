@@ -27,8 +27,8 @@ impl Scanner<'_> {
         self.text.len() <= self.at
     }
 
-    #[tactic(auto, using(crate::proofs::Sizes::piece_fits))]
     /// Reads what stands next: a token, or what separates tokens.
+    #[tactic(auto, using(crate::proofs::Sizes::piece_fits))]
     fn read(&mut self) -> Result<Option<Token>, TokenFault>
         requires short { length self.old.text.now < 2 ^ 32 }
         requires more { self.old.at < length self.old.text.now }

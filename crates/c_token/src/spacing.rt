@@ -14,8 +14,8 @@ fn are_blanks(bytes: &[u8]) -> bool
     bytes.iter().all(|byte| is_blank(*byte))
 }
 
-#[tactic(auto, using(crate::proofs::Spaces::in_order_le))]
 /// Whether all bytes outside these tokens are blanks. The tokens lie in order in the text.
+#[tactic(auto, using(crate::proofs::Spaces::in_order_le))]
 pub fn is_plainly_spaced(text: &[u8], tokens: &[Token]) -> bool
     requires { AreInOrder 0 tokens.now (length text.now) }
     ensures { IsTrue result ↔ IsPlainlySpaced text.now tokens.now }

@@ -18,14 +18,29 @@ const BLANKS: [Case; 4] = [
 ];
 
 const NAMES: [Case; 10] = [
-    (b"auto break case char const continue default do double else enum", "Word 0-4, Word 5-10, Word 11-15, Word 16-20, Word 21-26, Word 27-35, Word 36-43, Word 44-46, Word 47-53, Word 54-58, Word 59-63"),
-    (b"extern float for goto if inline int long register restrict return", "Word 0-6, Word 7-12, Word 13-16, Word 17-21, Word 22-24, Word 25-31, Word 32-35, Word 36-40, Word 41-49, Word 50-58, Word 59-65"),
-    (b"short signed sizeof static struct switch typedef union unsigned void volatile", "Word 0-5, Word 6-12, Word 13-19, Word 20-26, Word 27-33, Word 34-40, Word 41-48, Word 49-54, Word 55-63, Word 64-68, Word 69-77"),
-    (b"while _Alignas _Alignof _Atomic _Bool _Complex _Generic _Imaginary _Noreturn _Static_assert _Thread_local", "Word 0-5, Word 6-14, Word 15-23, Word 24-31, Word 32-37, Word 38-46, Word 47-55, Word 56-66, Word 67-76, Word 77-91, Word 92-105"),
+    (
+        b"auto break case char const continue default do double else enum",
+        "Word 0-4, Word 5-10, Word 11-15, Word 16-20, Word 21-26, Word 27-35, Word 36-43, Word 44-46, Word 47-53, Word 54-58, Word 59-63",
+    ),
+    (
+        b"extern float for goto if inline int long register restrict return",
+        "Word 0-6, Word 7-12, Word 13-16, Word 17-21, Word 22-24, Word 25-31, Word 32-35, Word 36-40, Word 41-49, Word 50-58, Word 59-65",
+    ),
+    (
+        b"short signed sizeof static struct switch typedef union unsigned void volatile",
+        "Word 0-5, Word 6-12, Word 13-19, Word 20-26, Word 27-33, Word 34-40, Word 41-48, Word 49-54, Word 55-63, Word 64-68, Word 69-77",
+    ),
+    (
+        b"while _Alignas _Alignof _Atomic _Bool _Complex _Generic _Imaginary _Noreturn _Static_assert _Thread_local",
+        "Word 0-5, Word 6-14, Word 15-23, Word 24-31, Word 32-37, Word 38-46, Word 47-55, Word 56-66, Word 67-76, Word 77-91, Word 92-105",
+    ),
     (b"_", "Name 0-1"),
     (b"a1_Z9", "Name 0-5"),
     (b"integer", "Name 0-7"),
-    (b"int_ do1 _Bool_ returns", "Name 0-4, Name 5-8, Name 9-15, Name 16-23"),
+    (
+        b"int_ do1 _Bool_ returns",
+        "Name 0-4, Name 5-8, Name 9-15, Name 16-23",
+    ),
     (b"Int _bool", "Name 0-3, Name 4-9"),
     (b"if(else", "Word 0-2, Mark 2-3, Word 3-7"),
 ];
@@ -54,7 +69,10 @@ const NUMBERS: [Case; 42] = [
     (b"020000000000", "Number 2147483648u 0-12"),
     (b"037777777777", "Number 4294967295u 0-12"),
     (b"040000000000", "Number at 0"),
-    (b"1u 0u 07U 0x1u", "Number 1u 0-2, Number 0u 3-5, Number 7u 6-9, Number 1u 10-14"),
+    (
+        b"1u 0u 07U 0x1u",
+        "Number 1u 0-2, Number 0u 3-5, Number 7u 6-9, Number 1u 10-14",
+    ),
     (b"0xu", "Number at 0"),
     (b"1uu", "Number at 0"),
     (b"1ul", "Number at 0"),
@@ -76,8 +94,14 @@ const NUMBERS: [Case; 42] = [
 ];
 
 const MARKS: [Case; 18] = [
-    (b"( ) [ ] { } ; , = + - * / % & | ^ ~ ! < > ? :", "Mark 0-1, Mark 2-3, Mark 4-5, Mark 6-7, Mark 8-9, Mark 10-11, Mark 12-13, Mark 14-15, Mark 16-17, Mark 18-19, Mark 20-21, Mark 22-23, Mark 24-25, Mark 26-27, Mark 28-29, Mark 30-31, Mark 32-33, Mark 34-35, Mark 36-37, Mark 38-39, Mark 40-41, Mark 42-43, Mark 44-45"),
-    (b"++ -- << >> <= >= == != && || += -= *= /= %= &= |= ^= <<= >>=", "Mark 0-2, Mark 3-5, Mark 6-8, Mark 9-11, Mark 12-14, Mark 15-17, Mark 18-20, Mark 21-23, Mark 24-26, Mark 27-29, Mark 30-32, Mark 33-35, Mark 36-38, Mark 39-41, Mark 42-44, Mark 45-47, Mark 48-50, Mark 51-53, Mark 54-57, Mark 58-61"),
+    (
+        b"( ) [ ] { } ; , = + - * / % & | ^ ~ ! < > ? :",
+        "Mark 0-1, Mark 2-3, Mark 4-5, Mark 6-7, Mark 8-9, Mark 10-11, Mark 12-13, Mark 14-15, Mark 16-17, Mark 18-19, Mark 20-21, Mark 22-23, Mark 24-25, Mark 26-27, Mark 28-29, Mark 30-31, Mark 32-33, Mark 34-35, Mark 36-37, Mark 38-39, Mark 40-41, Mark 42-43, Mark 44-45",
+    ),
+    (
+        b"++ -- << >> <= >= == != && || += -= *= /= %= &= |= ^= <<= >>=",
+        "Mark 0-2, Mark 3-5, Mark 6-8, Mark 9-11, Mark 12-14, Mark 15-17, Mark 18-20, Mark 21-23, Mark 24-26, Mark 27-29, Mark 30-32, Mark 33-35, Mark 36-38, Mark 39-41, Mark 42-44, Mark 45-47, Mark 48-50, Mark 51-53, Mark 54-57, Mark 58-61",
+    ),
     (b"<<=", "Mark 0-3"),
     (b">>=", "Mark 0-3"),
     (b"<<<=", "Mark 0-2, Mark 2-4"),

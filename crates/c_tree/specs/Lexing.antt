@@ -1,5 +1,5 @@
 -- Which tokens a text is, place by place. `here` is what stands from a place on, and `before` what stands in front of it.
-use Rattle.std.specs.Prelude.{◌≡◌, ℕ, ◌+◌, ◌-◌, ◌<◌, ◌≤◌, nat_le, Bool, true, false, not, ◌&&◌, ◌||◌, List, [], ◌∷◌, length, take, drop, codes, bytes_eq, count_by, take_while, Some}
+use Rattle.std.specs.Prelude.{◌≡◌, ℕ, ◌+◌, ◌<◌, ◌≤◌, nat_le, Bool, true, false, not, ◌&&◌, ◌||◌, List, [], ◌∷◌, length, take, drop, codes, bytes_eq, count_by, take_while, Some}
 use Rattle.std.specs.List.{list_all, prefix_len, before_first, after_last}
 use Rattle.std.specs.Str.Parse.{digits_value}
 use Rattle.c_tree.specs.declared.token.Kind.{Kind}

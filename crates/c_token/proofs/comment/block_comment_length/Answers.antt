@@ -1,6 +1,4 @@
-use Rattle.std.proofs.Common.{ℕ, List, Some, None, codes}
 use Rattle.std.proofs.lemmas.List.{take_rest}
-use Rattle.memchr.specs.Find.{FindsNeedle}
 use Rattle.c_token.proofs.Comments.{comment_open, comment_closed}
 use Rattle.c_token.proofs.comment.block_comment_length.Goals as goal
 

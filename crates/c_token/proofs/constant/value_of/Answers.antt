@@ -1,4 +1,4 @@
-use Rattle.std.proofs.Common.{◌≡◌, ◌+◌, ◌*◌, ◌^◌, ◌≤◌, get_or, arith}
+use Rattle.std.proofs.Common.{◌+◌, ◌*◌, ◌^◌, ◌≤◌, get_or, arith}
 use Rattle.std.specs.Char.{digit_value}
 use Rattle.c_token.proofs.Numerals.{held-over, held-end}
 use Rattle.c_token.proofs.constant.value_of.Goals as goal

@@ -1,5 +1,4 @@
-use Rattle.std.proofs.Common.{sym, ◌∙◌, ap}
-use Rattle.c_tree.specs.Lexing.{is_line_end}
+use Rattle.std.proofs.Common.{sym}
 use Rattle.c_token.proofs.Operands.{operand_long, operand_unended, operand_read}
 use Rattle.c_token.proofs.directive.bound_of.Goals as goal
 

@@ -1,4 +1,4 @@
-use Rattle.std.proofs.Common.{length, arith}
+use Rattle.std.proofs.Common.{length}
 use Rattle.c_tree.specs.declared.token.Kind.TheVariants.{Word}
 use Rattle.c_token.proofs.Spaces.{next_in_order}
 use Rattle.c_token.proofs.spacing.is_plainly_spaced.Goals as goal
