@@ -7,9 +7,9 @@ use Rattle.c_token.specs.declared.fault.TokenFault.{TokenFault}
 use Rattle.c_token.specs.declared.fault.TokenFault.TheVariants.{Byte, Comment, Number, Directive, NoMemory}
 use Rattle.c_token.specs.declared.piece.Flaw.{Flaw}
 use Rattle.c_token.specs.declared.piece.Flaw.TheVariants as flaws
-use Rattle.c_token.specs.Pieces.{IsFlaw}
+use Rattle.c_token.specs.Pieces.{IsFlaw, fault_of}
 use Rattle.c_token.specs.Faults.{StopsAt}
-use Rattle.c_token.specs.Answers.{IsFault, UnlessNoMemory, fault_of}
+use Rattle.c_token.specs.Answers.{IsFault, UnlessNoMemory}
 use Rattle.c_token.proofs.Reaching.{reached_once}
 
 -- the answer holds of the text

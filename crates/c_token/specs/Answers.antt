@@ -1,10 +1,7 @@
 -- What the answer for a text means.
-use Rattle.std.specs.Prelude.{◌≡◌, ℕ, List, take, drop, Result, Ok, Err}
+use Rattle.std.specs.Prelude.{ℕ, List, Result, Ok, Err}
 use Rattle.c_token.specs.declared.fault.TokenFault.{TokenFault}
 use Rattle.c_token.specs.declared.fault.TokenFault.TheVariants.{Byte, Comment, Number, Directive, NoMemory}
-use Rattle.c_token.specs.declared.piece.Flaw.{Flaw}
-use Rattle.c_token.specs.declared.piece.Flaw.TheVariants as flaws
-use Rattle.c_token.specs.Pieces.{IsFlaw}
 use Rattle.c_token.specs.Faults.{HasStrayByte, HasOpenComment, HasBadNumber, HasBadDirective}
 
 -- what is true where a fault is answered
@@ -23,16 +20,3 @@ UnlessNoMemory (Err (Comment at)) P = P
 UnlessNoMemory (Err (Number at)) P = P
 UnlessNoMemory (Err (Directive at)) P = P
 UnlessNoMemory (Err NoMemory) P = Unit {0}
-
--- the fault that a flaw is at a place
-abbrev pub fault_of : Flaw → ℕ → TokenFault
-fault_of flaws.Byte at = Byte at
-fault_of flaws.Comment at = Comment at
-fault_of flaws.Number at = Number at
-fault_of flaws.Directive at = Directive at
-
--- the fault is that of a flaw at this place of the text
-pub record StopsHere (text : List ℕ) (at : ℕ) (fault : TokenFault) : Type 0 where
-  pub flaw : Flaw
-  pub is : fault ≡ fault_of flaw at
-  pub stands : IsFlaw (take at text) (drop at text) flaw

@@ -7,6 +7,7 @@ use Rattle.c_tree.specs.Characters.{is_name_byte, is_sign, is_exponent}
 unfoldable pub continues : ℕ → ℕ → Bool
 continues last c = is_name_byte c || (c == byte ".") || (is_sign c && is_exponent last)
 
+-- how many bytes at the front go on the number
 unfoldable pub number_length : ℕ → List ℕ → ℕ
 number_length last [] = 0
 number_length last (c ∷ cs) = if continues last c then number_length c cs + 1 else 0

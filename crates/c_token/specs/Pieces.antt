@@ -1,5 +1,5 @@
 -- What stands at a place of a text.
-use Rattle.std.specs.Prelude.{◌≡◌, ℕ, false, List, Option, Some, None, Result, MatchResult}
+use Rattle.std.specs.Prelude.{◌≡◌, ℕ, false, List, take, drop, Option, Some, None, Result, MatchResult}
 use Rattle.c_tree.specs.declared.token.Token.{Token}
 use Rattle.c_tree.specs.Characters.{begins, is_blank}
 use Rattle.c_tree.specs.Lexing.{Separates, IsToken, opens_block_comment, opens_line_comment, opens_directive}
@@ -7,18 +7,23 @@ use Rattle.c_token.specs.declared.piece.Piece.{Piece}
 use Rattle.c_token.specs.declared.piece.Piece.TheVariants.{Gap, Lexeme}
 use Rattle.c_token.specs.declared.piece.Flaw.{Flaw}
 use Rattle.c_token.specs.declared.piece.Flaw.TheVariants.{Byte, Comment, Number, Directive}
+use Rattle.c_token.specs.declared.fault.TokenFault.{TokenFault}
+use Rattle.c_token.specs.declared.fault.TokenFault.TheVariants as faults
 use Rattle.c_token.specs.Faults.{IsStrayByte, IsOpenComment, IsBadNumber, IsBadDirective}
 
+-- what is true where a piece is found
 abbrev pub IsPiece : List ℕ → List ℕ → Piece → Type 0
 IsPiece before here (Gap n) = Separates before here n
 IsPiece before here (Lexeme kind n) = IsToken before here kind n
 
+-- what is true where a flaw is found
 abbrev pub IsFlaw : List ℕ → List ℕ → Flaw → Type 0
 IsFlaw before here Byte = IsStrayByte before here
 IsFlaw before here Comment = IsOpenComment here
 IsFlaw before here Number = IsBadNumber here
 IsFlaw before here Directive = IsBadDirective before here
 
+-- what stands at a place: a piece, or a flaw
 abbrev pub Stands : List ℕ → List ℕ → Result Piece Flaw → Type 0
 Stands before here r = MatchResult r (IsPiece before here) (IsFlaw before here)
 
@@ -29,6 +34,7 @@ pub record IsOther (before here : List ℕ) : Type 0 where
   pub no_line_comment : opens_line_comment here ≡ false
   pub no_directive : opens_directive before here ≡ false
 
+-- how many bytes a piece takes
 abbrev pub size_of : Piece → ℕ
 size_of (Gap n) = n
 size_of (Lexeme kind n) = n
@@ -37,3 +43,16 @@ size_of (Lexeme kind n) = n
 abbrev pub token_of : Piece → ℕ → ℕ → Option Token
 token_of (Gap n) from to = None
 token_of (Lexeme kind n) from to = Some (record { kind = kind; from = from; to = to })
+
+-- the fault that a flaw is at a place
+abbrev pub fault_of : Flaw → ℕ → TokenFault
+fault_of Byte at = faults.Byte at
+fault_of Comment at = faults.Comment at
+fault_of Number at = faults.Number at
+fault_of Directive at = faults.Directive at
+
+-- the fault is that of a flaw at this place of the text
+pub record StopsHere (text : List ℕ) (at : ℕ) (fault : TokenFault) : Type 0 where
+  pub flaw : Flaw
+  pub is : fault ≡ fault_of flaw at
+  pub stands : IsFlaw (take at text) (drop at text) flaw

@@ -3,10 +3,10 @@
 ghost use Rattle.std.specs.Prelude.{◌≡◌, ◌<◌, ◌≤◌, ◌^◌, ◌↔◌, ◌++◌, ℕ, List, length, nat_le, IsOkAnd, IfOk, OnOk, IfErr, MatchResult};
 ghost use Rattle.std.specs.Option.{option_to_list};
 ghost use Rattle.c_tree.specs.Lexing.{Reaches, Lexes};
-ghost use Rattle.c_token.specs.Pieces as spec;
 ghost use Rattle.c_tree.specs.Places.{AreInOrder, AreSeparated};
+ghost use Rattle.c_token.specs.Pieces as pieces;
 ghost use Rattle.c_token.specs.Faults.{HasStrayByte, HasOpenComment, HasBadNumber, HasBadDirective};
-ghost use Rattle.c_token.specs.Answers.{UnlessNoMemory, IsFault, StopsHere, fault_of};
+ghost use Rattle.c_token.specs.Answers.{UnlessNoMemory, IsFault};
 
 use crate::fault::TokenFault;
 use crate::piece::{Flaw, Piece, read_piece};
@@ -36,7 +36,7 @@ impl Scanner<'_> {
         ensures on { OnOk result (self.old.at < self.new.at) }
         ensures within { OnOk result (self.new.at ≤ length self.old.text.now) }
         ensures reaches { IfOk result (λ token. Reaches self.old.text.now self.new.at self.old.at (option_to_list token)) }
-        ensures stops { IfErr result (StopsHere self.old.text.now self.old.at) }
+        ensures stops { IfErr result (pieces.StopsHere self.old.text.now self.old.at) }
     {
         let at = self.at;
         let piece = match read_piece(&self.text[..at], &self.text[at..]) {
@@ -49,7 +49,7 @@ impl Scanner<'_> {
 }
 
 fn token_of(piece: Piece, from: u32, to: u32) -> Option<Token>
-    ensures { result ≡ spec.token_of piece from to }
+    ensures { result ≡ pieces.token_of piece from to }
 {
     match piece {
         Piece::Gap(_) => None,
@@ -58,7 +58,7 @@ fn token_of(piece: Piece, from: u32, to: u32) -> Option<Token>
 }
 
 fn flaw_at(flaw: Flaw, at: u32) -> TokenFault
-    ensures { result ≡ fault_of flaw at }
+    ensures { result ≡ pieces.fault_of flaw at }
 {
     match flaw {
         Flaw::Byte => TokenFault::Byte { at },

@@ -314,6 +314,19 @@ fn a_long_name_is_one_token(rt: HostRuntime) -> Result<(), Fail> {
     Ok(())
 }
 
+/// As many tokens as the longest text can have.
+#[test]
+fn a_token_a_byte(rt: HostRuntime) -> Result<(), Fail> {
+    let alloc = rt.alloc();
+    let text = vec![in alloc; b';'; 1_048_576]?;
+    assert!(rt; text.len() == 1_048_576);
+    let Ok(tokens) = tokens(alloc, text.as_slice()) else {
+        panic!(rt; "these are tokens");
+    };
+    assert_eq!(rt; tokens.len(), 1_048_576);
+    Ok(())
+}
+
 #[test]
 fn plain_spacing(rt: HostRuntime) -> Result<(), Fail> {
     let alloc = rt.alloc();
