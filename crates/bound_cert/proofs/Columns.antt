@@ -74,15 +74,15 @@ total-kept f true t ts = refl
 total-kept f false t ts = sym (+ℤ_idl (total (map f ts)))
 
 -- the weighted terms of a row, edge by edge, come to its multiplier times its left side
-pub columns-weighted_terms : (y : ℤ) (terms : List (ℕ × ℤ)) (x : List ℕ) → NamesBelow (length x) terms → columns (λ k. total (weighted_terms k y terms)) 0 x ≡ y *ℤ left_side terms x
+pub columns-weighted_terms : (y : ℤ) (terms : List (ℕ × ℤ)) (x : List ℕ) → NamesBelow (length x) terms → columns (λ k. total (weighted_terms y terms k)) 0 x ≡ y *ℤ left_side terms x
 columns-weighted_terms y [] x below = columns-zero 0 x ∙ sym (*ℤ-zero y)
 columns-weighted_terms y (t ∷ ts) x below =
     let Below : (ℕ × ℤ) → Type 0 = λ term. term.0 < length x in
     let first = All-head Below t ts below in
     let rest = All-tail Below t ts below in
-    columns-same (λ k. total (weighted_terms k y (t ∷ ts))) (λ k. only t.0 (y *ℤ t.1) k +ℤ total (weighted_terms k y ts)) (λ k. total-kept (λ (term : ℕ × ℤ). y *ℤ term.1) (eqb t.0 k) t (filter (λ (term : ℕ × ℤ). eqb term.0 k) ts)) 0 x
-    ∙ columns-plus (only t.0 (y *ℤ t.1)) (λ k. total (weighted_terms k y ts)) 0 x
-    ∙ ap (λ z. z +ℤ columns (λ k. total (weighted_terms k y ts)) 0 x) (columns-only t.0 (y *ℤ t.1) t.0 0 x (omega arith) first ∙ times-times y t.1 (pos (get_or x t.0 0)))
+    columns-same (λ k. total (weighted_terms y (t ∷ ts) k)) (λ k. only t.0 (y *ℤ t.1) k +ℤ total (weighted_terms y ts k)) (λ k. total-kept (λ (term : ℕ × ℤ). y *ℤ term.1) (eqb t.0 k) t (filter (λ (term : ℕ × ℤ). eqb term.0 k) ts)) 0 x
+    ∙ columns-plus (only t.0 (y *ℤ t.1)) (λ k. total (weighted_terms y ts k)) 0 x
+    ∙ ap (λ z. z +ℤ columns (λ k. total (weighted_terms y ts k)) 0 x) (columns-only t.0 (y *ℤ t.1) t.0 0 x (omega arith) first ∙ times-times y t.1 (pos (get_or x t.0 0)))
     ∙ ap (λ z. y *ℤ (t.1 *ℤ pos (get_or x t.0 0)) +ℤ z) (columns-weighted_terms y ts x rest)
     ∙ sym (times-plus y (t.1 *ℤ pos (get_or x t.0 0)) (left_side ts x))
 
@@ -94,14 +94,14 @@ weighted_lefts x (row ∷ rows) (y ∷ ys) = (y *ℤ left_side row.terms x) ∷ 
 weighted_lefts x [] ys = []
 weighted_lefts x (row ∷ rows) [] = []
 
-pub columns-weighted_factors : (rows : List Row) (ys : List ℤ) (x : List ℕ) → All (λ (row : Row). NamesBelow (length x) row.terms) rows → columns (λ k. total (weighted_factors k rows ys)) 0 x ≡ total (weighted_lefts x rows ys)
+pub columns-weighted_factors : (rows : List Row) (ys : List ℤ) (x : List ℕ) → All (λ (row : Row). NamesBelow (length x) row.terms) rows → columns (λ k. total (weighted_factors rows ys k)) 0 x ≡ total (weighted_lefts x rows ys)
 columns-weighted_factors [] ys x below = columns-zero 0 x
 columns-weighted_factors (row ∷ rows) [] x below = columns-zero 0 x
 columns-weighted_factors (row ∷ rows) (y ∷ ys) x below =
     let Below : Row → Type 0 = λ row. NamesBelow (length x) row.terms in
     let first = All-head Below row rows below in
     let rest = All-tail Below row rows below in
-    columns-same (λ k. total (weighted_factors k (row ∷ rows) (y ∷ ys))) (λ k. total (weighted_terms k y row.terms) +ℤ total (weighted_factors k rows ys)) (λ k. total-append (weighted_terms k y row.terms) (weighted_factors k rows ys)) 0 x
-    ∙ columns-plus (λ k. total (weighted_terms k y row.terms)) (λ k. total (weighted_factors k rows ys)) 0 x
-    ∙ ap (λ z. z +ℤ columns (λ k. total (weighted_factors k rows ys)) 0 x) (columns-weighted_terms y row.terms x first)
+    columns-same (λ k. total (weighted_factors (row ∷ rows) (y ∷ ys) k)) (λ k. total (weighted_terms y row.terms k) +ℤ total (weighted_factors rows ys k)) (λ k. total-append (weighted_terms y row.terms k) (weighted_factors rows ys k)) 0 x
+    ∙ columns-plus (λ k. total (weighted_terms y row.terms k)) (λ k. total (weighted_factors rows ys k)) 0 x
+    ∙ ap (λ z. z +ℤ columns (λ k. total (weighted_factors rows ys k)) 0 x) (columns-weighted_terms y row.terms x first)
     ∙ ap (λ z. y *ℤ left_side row.terms x +ℤ z) (columns-weighted_factors rows ys x rest)

@@ -61,19 +61,19 @@ back : (a b : ℤ) → a ≡ (a -ℤ b) +ℤ b
 back a b = omega (arith, ints)
 
 -- d times the cost, from an edge on, is at most the bounds of the edges and what the rows took
-edges-le : (rows : Rows) (by : Multipliers) (e : ℕ) (costs : List ℕ) (limits : List (ℕ × ℕ)) (x : List ℕ) → length costs ≡ length x → AllZip (λ (limit : ℕ × ℕ) (n : ℕ). (limit.0 ≤ n) × (n ≤ limit.1)) limits x → (by.d *ℤ pos (cost_by costs x)) ≤ℤ (total (edge_bounds rows by e costs limits) +ℤ columns (λ k. total (weighted_factors k rows.rows by.y)) e x)
+edges-le : (rows : Rows) (by : Multipliers) (e : ℕ) (costs : List ℕ) (limits : List (ℕ × ℕ)) (x : List ℕ) → length costs ≡ length x → AllZip (λ (limit : ℕ × ℕ) (n : ℕ). (limit.0 ≤ n) × (n ≤ limit.1)) limits x → (by.d *ℤ pos (cost_by costs x)) ≤ℤ (total (edge_bounds rows by e costs limits) +ℤ columns (λ k. total (weighted_factors rows.rows by.y k)) e x)
 edges-le rows by e [] [] [] same within = omega (arith, ints)
 edges-le rows by e [] limits (n ∷ ns) same within = absurd (omega (arith, same))
 edges-le rows by e (c ∷ cs) limits [] same within = absurd (omega (arith, same))
 edges-le rows by e [] (limit ∷ limits) [] same within = absurd within
 edges-le rows by e (c ∷ cs) [] (n ∷ ns) same within = absurd within
 edges-le rows by e (c ∷ cs) (limit ∷ limits) (n ∷ ns) same within =
-    let taken = total (weighted_factors e rows.rows by.y) in
+    let taken = total (weighted_factors rows.rows by.y e) in
     let r = reduced_cost rows by e c in
     let whole : (by.d *ℤ pos c) *ℤ pos n ≡ r *ℤ pos n +ℤ taken *ℤ pos n = ap (λ z. z *ℤ pos n) (back (by.d *ℤ pos c) taken) ∙ plus-times r taken (pos n) in
     let split : by.d *ℤ pos (c * n + cost_by cs ns) ≡ (by.d *ℤ pos c) *ℤ pos n +ℤ by.d *ℤ pos (cost_by cs ns) = times-plus by.d (pos (c * n)) (pos (cost_by cs ns)) ∙ ap (λ z. z +ℤ by.d *ℤ pos (cost_by cs ns)) (sym (times-times by.d (pos c) (pos n))) in
-    subst (λ z. z ≤ℤ (total (edge_bounds rows by e (c ∷ cs) (limit ∷ limits)) +ℤ columns (λ k. total (weighted_factors k rows.rows by.y)) e (n ∷ ns))) (sym split)
-    (sum-le ((by.d *ℤ pos c) *ℤ pos n) (by.d *ℤ pos (cost_by cs ns)) (r *ℤ pos n) (taken *ℤ pos n) (r *ℤ pos (best_limit r limit)) (total (edge_bounds rows by (e + 1) cs limits)) (columns (λ k. total (weighted_factors k rows.rows by.y)) (e + 1) ns) whole
+    subst (λ z. z ≤ℤ (total (edge_bounds rows by e (c ∷ cs) (limit ∷ limits)) +ℤ columns (λ k. total (weighted_factors rows.rows by.y k)) e (n ∷ ns))) (sym split)
+    (sum-le ((by.d *ℤ pos c) *ℤ pos n) (by.d *ℤ pos (cost_by cs ns)) (r *ℤ pos n) (taken *ℤ pos n) (r *ℤ pos (best_limit r limit)) (total (edge_bounds rows by (e + 1) cs limits)) (columns (λ k. total (weighted_factors rows.rows by.y k)) (e + 1) ns) whole
     (best_limit-le r limit n within.0.0 within.0.1)
     (edges-le rows by (e + 1) cs limits ns (omega (arith, same)) within.1))
 
@@ -104,4 +104,4 @@ weak_duality_lem rows objective within by entries fits x inside met =
     let lefts = subst (λ z. z ≤ℤ total (weighted_rights rows.rows by.y)) (sym columns_are) (weighted_lefts-le rows.rows by.y x met fits.each) in
     let scaled = edges-le rows by 0 objective.costs within.limits x (entries.costs ∙ sym edges) inside in
     at_most_floor by.d (undivided rows objective within by) (cost objective x) fits.divisor
-    (swap-le (by.d *ℤ pos (cost objective x)) (total (edge_bounds rows by 0 objective.costs within.limits)) (columns (λ k. total (weighted_factors k rows.rows by.y)) 0 x) (total (weighted_rights rows.rows by.y)) scaled lefts)
+    (swap-le (by.d *ℤ pos (cost objective x)) (total (edge_bounds rows by 0 objective.costs within.limits)) (columns (λ k. total (weighted_factors rows.rows by.y k)) 0 x) (total (weighted_rights rows.rows by.y)) scaled lefts)

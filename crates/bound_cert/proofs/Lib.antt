@@ -1,5 +1,7 @@
+pub mod Batches
 pub mod Columns
 pub mod Duality
 pub mod Edges
+pub mod ListSteps
 pub mod Products
-pub mod Weighing
+pub mod Scaling

@@ -17,18 +17,18 @@ weighted_rights [] ys = []
 weighted_rights (row ∷ rows) [] = []
 
 -- multiplier times factor, of the terms that name the edge
-abbrev pub weighted_terms : ℕ → ℤ → List (ℕ × ℤ) → List ℤ
-weighted_terms edge y terms = map (λ term. y *ℤ term.1) (filter (λ term. term.0 == edge) terms)
+abbrev pub weighted_terms : ℤ → List (ℕ × ℤ) → ℕ → List ℤ
+weighted_terms y terms edge = map (λ term. y *ℤ term.1) (filter (λ term. term.0 == edge) terms)
 
 -- the same, of the rows that name the edge, row by row
-abbrev pub weighted_factors : ℕ → List Row → List ℤ → List ℤ
-weighted_factors edge (row ∷ rows) (y ∷ ys) = weighted_terms edge y row.terms ++ weighted_factors edge rows ys
-weighted_factors edge [] ys = []
-weighted_factors edge (row ∷ rows) [] = []
+abbrev pub weighted_factors : List Row → List ℤ → ℕ → List ℤ
+weighted_factors (row ∷ rows) (y ∷ ys) edge = weighted_terms y row.terms edge ++ weighted_factors rows ys edge
+weighted_factors [] ys edge = []
+weighted_factors (row ∷ rows) [] edge = []
 
 -- what the rows leave of d times the cost of an edge
 abbrev pub reduced_cost : Rows → Multipliers → ℕ → ℕ → ℤ
-reduced_cost rows by edge cost = by.d *ℤ pos cost -ℤ total (weighted_factors edge rows.rows by.y)
+reduced_cost rows by edge cost = by.d *ℤ pos cost -ℤ total (weighted_factors rows.rows by.y edge)
 
 -- the limit at which r times a count comes to most: the greatest where r is not negative, else the least
 abbrev pub best_limit : ℤ → ℕ × ℕ → ℕ

@@ -13,7 +13,7 @@ use Rattle.bound_cert.specs.Dual.{weighted_rights, weighted_factors, edge_bound}
 -- the steps to an edge's reduced cost
 abbrev pub reduced_cost_steps : Rows → Multipliers → ℕ → ℕ → List ℤ
 reduced_cost_steps rows by edge cost =
-    (by.d *ℤ pos cost) ∷ subtraction_steps (by.d *ℤ pos cost) (weighted_factors edge rows.rows by.y)
+    (by.d *ℤ pos cost) ∷ subtraction_steps (by.d *ℤ pos cost) (weighted_factors rows.rows by.y edge)
 
 -- the steps of an edge, where the sum is s
 abbrev pub edge_steps : Rows → Multipliers → ℕ → ℤ → ℕ → ℕ × ℕ → List ℤ

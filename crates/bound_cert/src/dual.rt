@@ -2,13 +2,14 @@
 
 ghost use Rattle.std.specs.Prelude.{◌≡◌, ◌↔◌, ℕ, ℤ, pos, ◌+ℤ◌, ◌-ℤ◌, ◌*ℤ◌, length, IsSome, IsNone, IfSome};
 ghost use Rattle.std.specs.Option.{SomeIff};
-ghost use Rattle.lin_rows.specs.Steps.{total, addition_steps, subtraction_steps, StaysInI128, LeavesI128};
-ghost use Rattle.bound_cert.specs.Dual.{dual, weighted_rights, weighted_terms, weighted_factors, edge_bound, best_limit};
-ghost use Rattle.bound_cert.specs.DualSteps.{dual_steps, edge_steps};
+ghost use Rattle.lin_rows.specs.Steps.{total, addition_steps, StaysInI128, LeavesI128};
+ghost use Rattle.bound_cert.specs.Dual.{dual, weighted_rights};
+ghost use Rattle.bound_cert.specs.DualSteps.{dual_steps};
 ghost use Rattle.bound_cert.specs.Fitting.{FitsRows};
 ghost use Rattle.bound_cert.specs.Law.{IsBound};
 
-use lin_rows::{CountBox, Multipliers, Objective, Row, Rows, add_product, subtract_product};
+use crate::batch::{BATCH, add_batch};
+use lin_rows::{CountBox, Multipliers, Objective, Row, Rows, add_product};
 
 /// The bound that multipliers give on the cost of every vector of counts in the box that meets the rows, or `None`
 /// exactly where a step of its written order leaves `i128`. The order:
@@ -19,7 +20,8 @@ use lin_rows::{CountBox, Multipliers, Objective, Row, Rows, add_product, subtrac
 ///   r times its least count;
 /// - the bound is s divided by `d`, rounded down.
 ///
-/// It takes no memory.
+/// It takes no memory. Its rows are passed over once for each 64 edges, so its time grows with the edges times the terms of
+/// all rows, divided by 64: for 2,048 edges that two rows name each, some hundred thousand short steps.
 pub fn dual_bound(
     rows: &Rows,
     objective: &Objective,
@@ -35,29 +37,19 @@ pub fn dual_bound(
     ensures above { IfSome result (λ bound. IsBound rows.now objective.now within.now bound) }
 {
     let mut sum = right_sides(rows.rows(), by.y())?;
-    let limits = within.limits();
-    for (edge, cost) in objective.costs().iter().enumerate() {
-        sum = add_edge(sum, rows, by, edge, *cost, limits[edge])?;
+    let mut costs = objective.costs();
+    let mut limits = within.limits();
+    let mut first = 0;
+    while !costs.is_empty() {
+        let count = costs.len().min(BATCH);
+        let (batch, later) = costs.split_at(count);
+        let (batch_limits, later_limits) = limits.split_at(count);
+        sum = add_batch(sum, rows, by, first, batch, batch_limits)?;
+        first += count;
+        costs = later;
+        limits = later_limits;
     }
     Some(sum.div_euclid(by.d))
-}
-
-// `sum` and the most that the reduced cost of the edge comes to within its limits.
-fn add_edge(
-    sum: i128,
-    rows: &Rows,
-    by: &Multipliers,
-    edge: usize,
-    cost: u64,
-    limit: (u64, u64),
-) -> Option<i128>
-    requires { length rows.now.rows ≡ length by.now.y }
-    ensures { SomeIff result (StaysInI128 (edge_steps rows.now by.now edge sum cost limit)) (sum +ℤ edge_bound rows.now by.now edge cost limit) }
-{
-    let start = by.d.checked_mul(i128::from(cost))?;
-    let reduced = reduced_cost(rows.rows(), by.y(), edge, start)?;
-    let count = best_limit(reduced, limit);
-    add_product(sum, reduced, i128::from(count))
 }
 
 // The sum of multiplier times right side over the rows.
@@ -70,37 +62,4 @@ fn right_sides(rows: &[Row], y: &[i128]) -> Option<i128>
         sum = add_product(sum, y[i], row.right)?;
     }
     Some(sum)
-}
-
-// What the rows leave of `start` at the edge.
-fn reduced_cost(rows: &[Row], y: &[i128], edge: usize, start: i128) -> Option<i128>
-    requires { length rows.now ≡ length y.now }
-    ensures { SomeIff result (StaysInI128 (subtraction_steps start (weighted_factors edge rows.now y.now))) (start -ℤ total (weighted_factors edge rows.now y.now)) }
-{
-    let mut left = start;
-    for (i, row) in rows.iter().enumerate() {
-        left = less_terms(row.terms(), y[i], edge, left)?;
-    }
-    Some(left)
-}
-
-// What the terms that name the edge leave of `start`, with the multiplier `y`.
-fn less_terms(terms: &[(u16, i128)], y: i128, edge: usize, start: i128) -> Option<i128>
-    ensures { SomeIff result (StaysInI128 (subtraction_steps start (weighted_terms edge y terms.now))) (start -ℤ total (weighted_terms edge y terms.now)) }
-{
-    let mut left = start;
-    for (named, factor) in terms {
-        if usize::from(*named) != edge {
-            continue;
-        }
-        left = subtract_product(left, y, *factor)?;
-    }
-    Some(left)
-}
-
-// The limit at which `reduced` times the count comes to most.
-fn best_limit(reduced: i128, limit: (u64, u64)) -> u64
-    ensures { result ≡ best_limit reduced limit }
-{
-    if reduced >= 0 { limit.1 } else { limit.0 }
 }

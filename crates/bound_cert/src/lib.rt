@@ -2,6 +2,7 @@
 //! counts in the box that meets the rows costs more (weak duality).
 #![tactic(auto)]
 
+mod batch;
 mod dual;
 mod fitting;
 mod law;

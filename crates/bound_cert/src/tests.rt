@@ -153,6 +153,37 @@ fn edges_without_rows_count_at_their_greatest(rt: HostRuntime) -> Result<(), Fai
     Ok(())
 }
 
+// A hundred and fifty edges, of which one row limits all and one row limits edge 140 alone.
+fn many_edges(alloc: Global) -> Result<Setting, Fail> {
+    let mut all = Vec::new(alloc);
+    for edge in 0u16..150 {
+        all.push((edge, 1))?;
+    }
+    let mut rows = Vec::new(alloc);
+    rows.push(Row::new(all, RowKind::AtMost, 10))?;
+    rows.push(row(alloc, [(140, 3)].as_slice(), RowKind::AtMost, 6)?)?;
+    let costs = vec![in alloc; 2u64; 150]?;
+    let limits = vec![in alloc; (0u64, 4u64); 150]?;
+    set_up(alloc, rows, costs.as_slice(), limits.as_slice())
+}
+
+#[test]
+fn edges_far_apart_are_all_counted(rt: HostRuntime) -> Result<(), Fail> {
+    let alloc = rt.alloc();
+    let many = many_edges(alloc)?;
+    for (d, y, value) in [
+        (1, [0, 0].as_slice(), Some(1200)),
+        (1, [2, 0].as_slice(), Some(20)),
+        (1, [1, 0].as_slice(), Some(610)),
+        (1, [0, 1].as_slice(), Some(1198)),
+        (3, [6, 2].as_slice(), Some(24)),
+        (1, [MOST, 0].as_slice(), None),
+    ] {
+        assert_eq!(rt; bound(alloc, &many, d, y)?, value);
+    }
+    Ok(())
+}
+
 #[test]
 fn a_bound_ends_where_a_step_leaves_the_type(rt: HostRuntime) -> Result<(), Fail> {
     let alloc = rt.alloc();

@@ -1,7 +1,8 @@
-use Rattle.std.proofs.Common.{rules, ◌+◌, ◌<◌, ℤ, length, FitsSigned, subst, sym, drop, arith, slice_index_or}
+use Rattle.std.proofs.Common.{rules, arith, [], ◌≡◌, ◌≤◌, ◌+◌, ℤ, length, FitsSigned, subst, sym, drop, ◌∙◌}
 use Rattle.std.specs.Int.{w128}
+use Rattle.std.proofs.lemmas.Bool.{eqb-true}
 use Rattle.std.proofs.lemmas.Int.{to_z-of_z}
-use Rattle.std.proofs.lemmas.List.{drop_more, drop_all}
+use Rattle.std.proofs.lemmas.List.{drop_all, length-drop}
 use Rattle.lin_rows.proofs.StepLists.{Tells-none, Tells-some}
 use Rattle.lin_rows.specs.declared.row.Row.{Row}
 use Rattle.bound_cert.specs.Fitting.{Takes}
@@ -20,42 +21,43 @@ returns-in_err-sum c =
     let tells = Tells-none {T = ℤ} _ (rights-stop c.args.rows.now c.args.objective.now c.args.within.now c.args.by.now fails) in
     rw c.from_residual.ensures (record { none = tells.none; some = tells.some; value = search rules; above = search rules })
 
-pub loop-edge-init : goal.loop-edge-init
-loop-edge-init c =
+pub loop-costs-init : goal.loop-costs-init
+loop-costs-init c =
     let fits_sum : FitsSigned w128 c.in_ok-sum.sum = search rules in
     let added = rw (c.rows.ensures, c.y.ensures) at c.in_ok-sum.ensures in
-    simp to_z-of_z (Bounded-start c.args.rows.now c.args.objective.now c.args.within.now c.args.by.now c.in_ok-sum.sum fits_sum added)
+    let start = Bounded-start c.args.rows.now c.args.objective.now c.args.within.now c.args.by.now c.in_ok-sum.sum fits_sum added in
+    rw (c.costs-costs.ensures, c.limits-limits.ensures.value) (record { bounded = simp to_z-of_z start; same = omega (arith, c.requires.costs, c.requires.limits); below = omega arith })
 
-pub add_edge-requires : goal.add_edge-requires
-add_edge-requires c = AllZip-length (λ (row : Row) (y : ℤ). Takes row.kind y) c.args.rows.now.rows c.args.by.now.y c.requires.fits.each
+pub add_batch-requires-clause-rows : goal.add_batch-requires-clause-rows
+add_batch-requires-clause-rows c = AllZip-length (λ (row : Row) (y : ℤ). Takes row.kind y) c.args.rows.now.rows c.args.by.now.y c.requires.fits.each
 
 pub returns-in_err-sum-2 : goal.returns-in_err-sum-2
 returns-in_err-sum-2 c =
-    let edge = c.loop-edge.edge in
-    let costs = c.args.objective.now.costs in
-    let limits = c.args.within.now.limits in
-    let below : edge < length costs = rw c.costs-cost-items.ensures at c.loop-edge-test.true in
-    let fails = rw (c.costs-cost-items.ensures, c.limits-limits.ensures.value) at c.in_err-sum-2.ensures in
-    let bounded = rw (drop_more costs edge 0 below, drop_more limits edge (0, 0) (omega (arith, below, c.requires.costs, c.requires.limits))) at c.loop-edge.invariant in
-    let tells = Tells-none {T = ℤ} _ (Bounded-stop (slice_index_or costs edge 0) (slice_index_or limits edge (0, 0)) bounded fails) in
+    let n = c.min-count.result in
+    let within : n ≤ length c.loop-costs.costs.now = omega (arith, c.min-count.ensures) in
+    let fails = rw (c.split_at.ensures.front, c.split_at-in-loop-costs.ensures.front) at c.in_err-sum-2.ensures in
+    let tells = Tells-none {T = ℤ} _ (Bounded-stop n within c.loop-costs.invariant.same c.loop-costs.invariant.bounded fails) in
     rw c.from_residual-in_err-sum-2.ensures (record { none = tells.none; some = tells.some; value = search rules; above = search rules })
 
-pub loop-edge-preserved : goal.loop-edge-preserved
-loop-edge-preserved c =
-    let edge = c.loop-edge.edge in
-    let costs = c.args.objective.now.costs in
-    let limits = c.args.within.now.limits in
-    let below : edge < length costs = rw c.costs-cost-items.ensures at c.loop-edge-test.true in
-    let added = rw (c.costs-cost-items.ensures, c.limits-limits.ensures.value) at c.in_ok-sum-2.ensures in
-    let bounded = rw (drop_more costs edge 0 below, drop_more limits edge (0, 0) (omega (arith, below, c.requires.costs, c.requires.limits))) at c.loop-edge.invariant in
-    let next = Bounded-next (slice_index_or costs edge 0) (slice_index_or limits edge (0, 0)) bounded added.0 in
-    let fits_next = subst (FitsSigned w128) (sym added.1) next.fits in
-    simp to_z-of_z (subst (λ s. Bounded c.args.rows.now c.args.objective.now c.args.within.now c.args.by.now (edge + 1) s (drop (edge + 1) costs) (drop (edge + 1) limits)) (sym added.1) next)
+pub loop-costs-preserved : goal.loop-costs-preserved
+loop-costs-preserved c =
+    let n = c.min-count.result in
+    let costs = c.loop-costs.costs.now in
+    let limits = c.loop-costs.limits.now in
+    let within : n ≤ length costs = omega (arith, c.min-count.ensures) in
+    let same = c.loop-costs.invariant.same in
+    let added = rw (c.split_at.ensures.front, c.split_at-in-loop-costs.ensures.front) at c.in_ok-sum-2.ensures in
+    let fits_next : FitsSigned w128 c.in_ok-sum-2.sum = search rules in
+    let next = Bounded-next n within same c.loop-costs.invariant.bounded added.0 (subst (FitsSigned w128) added.1 fits_next) in
+    let bounded = subst (λ s. Bounded c.args.rows.now c.args.objective.now c.args.within.now c.args.by.now (c.loop-costs.first + n) s (drop n costs) (drop n limits)) (sym added.1) next in
+    rw (c.split_at.ensures.back, c.split_at-in-loop-costs.ensures.back)
+    (record { bounded = simp to_z-of_z bounded; same = omega (arith, same, length-drop n costs, length-drop n limits); below = omega (arith, within, length-drop n costs, c.loop-costs.invariant.below) })
 
 pub returns : goal.returns
 returns c =
-    let past = rw c.costs-cost-items.ensures at c.loop-edge-test.false in
-    let all = Bounded-all (rw (drop_all c.loop-edge.edge c.args.objective.now.costs past) at c.loop-edge.invariant) in
+    let empty : length c.loop-costs.costs.now ≡ 0 = eqb-true _ _ (sym c.is_empty.ensures ∙ c.loop-costs-test.false) in
+    let none : c.loop-costs.costs.now ≡ [] = drop_all 0 c.loop-costs.costs.now (omega (arith, empty)) in
+    let all = Bounded-all (rw none at c.loop-costs.invariant.bounded) in
     let fits_d : FitsSigned w128 c.args.by.now.d = search rules in
     let fits_bound : FitsSigned w128 c.div_euclid.result = search rules in
     let bound = rw all.1 at (simp to_z-of_z at c.div_euclid.ensures) in
