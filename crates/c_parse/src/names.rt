@@ -147,7 +147,13 @@ impl<'a> Scope<'a> {
         Ok(local)
     }
 
-    fn declared(&mut self, constant: bool, ty: Ty, spot: &'a Spot, shape: &RawShape) -> Result<Stmt, FormFault>
+    fn declared(
+        &mut self,
+        constant: bool,
+        ty: Ty,
+        spot: &'a Spot,
+        shape: &RawShape,
+    ) -> Result<Stmt, FormFault>
         requires { self.old.innermost ≤ length self.old.visible.items }
         ensures gives { GivesNames (declared (names_of self.old) constant ty spot.now shape.now) result (names_of self.new) }
         ensures innermost { IfOk result (λ _. (self.new.innermost ≡ self.old.innermost) × (self.new.innermost ≤ length self.new.visible.items)) }
@@ -161,7 +167,12 @@ impl<'a> Scope<'a> {
         }
     }
 
-    fn declaration(&mut self, ty: Ty, name: &'a [u8], initial: &Option<RawExpr>) -> Result<Stmt, FormFault>
+    fn declaration(
+        &mut self,
+        ty: Ty,
+        name: &'a [u8],
+        initial: &Option<RawExpr>,
+    ) -> Result<Stmt, FormFault>
         requires { self.old.innermost ≤ length self.old.visible.items }
         ensures gives { GivesNames (option_and_then (λ more. initialised (length self.old.locals) more initial.now) (declare (names_of self.old) ty name.now)) result (names_of self.new) }
         ensures innermost { IfOk result (λ _. (self.new.innermost ≡ self.old.innermost) × (self.new.innermost ≤ length self.new.visible.items)) }
@@ -176,7 +187,12 @@ impl<'a> Scope<'a> {
         }
     }
 
-    fn assignment(&mut self, place: &RawPlace, op: &Option<BinOp>, value: &RawExpr) -> Result<Stmt, FormFault>
+    fn assignment(
+        &mut self,
+        place: &RawPlace,
+        op: &Option<BinOp>,
+        value: &RawExpr,
+    ) -> Result<Stmt, FormFault>
         ensures gives { GivesNames (assigned (names_of self.old) place.now op.now value.now) result (names_of self.new) }
         ensures same { self.new ≡ self.old }
     {
@@ -239,7 +255,9 @@ impl<'a> Scope<'a> {
     {
         match stmt {
             RawStmt::Empty => Ok(Stmt::Empty),
-            RawStmt::Declare(constant, ty, spot, shape) => self.declared(*constant, *ty, spot, shape),
+            RawStmt::Declare(constant, ty, spot, shape) => self.declared(
+                *constant, *ty, spot, shape,
+            ),
             RawStmt::Assign(place, op, value) => self.assignment(place, op, value),
             RawStmt::Return(_, value) => self.return_of(value),
             RawStmt::If(condition, first, second) => {
@@ -286,7 +304,12 @@ fn func_of(alloc: Global, func: &RawFunc) -> Result<Func, FormFault>
 }
 
 // A function that is read.
-fn finished(alloc: Global, func: &RawFunc, locals: Items<Local>, body: Items<Stmt>) -> Result<Func, FormFault>
+fn finished(
+    alloc: Global,
+    func: &RawFunc,
+    locals: Items<Local>,
+    body: Items<Stmt>,
+) -> Result<Func, FormFault>
     requires { length func.now.params ≤ 64 }
     ensures { Gives (let named : Func = record { name = func.now.spot.name; result = func.now.result; params = length func.now.params; locals = locals; body = body } in Some named) result }
 {
