@@ -1,0 +1,3 @@
+pub mod Literals
+pub mod Truth
+pub mod Texts
