@@ -1,11 +1,12 @@
 -- Which assignments satisfy a formula.
-use Rattle.std.specs.Prelude.{ℕ, ℤ, pos, negsuc, List, Bool, false, not, ◌-◌, All, IsTrue}
+use Rattle.std.specs.Prelude.{zero, suc, ℤ, pos, negsuc, List, Bool, false, not, All, IsTrue}
 use Rattle.std.specs.List.{slice_index_or, list_any}
 
 -- whether the assignment makes a literal true; the value of variable 1 stands first, and a variable past the list is
--- false
+-- false (0 is no literal, and is never true)
 abbrev pub literal_true : List Bool → ℤ → Bool
-literal_true values (pos n) = slice_index_or values (n - 1) false
+literal_true values (pos zero) = false
+literal_true values (pos (suc n)) = slice_index_or values n false
 literal_true values (negsuc n) = not (slice_index_or values n false)
 
 -- whether it makes some literal of a clause true

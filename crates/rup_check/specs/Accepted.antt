@@ -5,13 +5,13 @@ use Rattle.cnf_form.specs.declared.log.Log.{Log}
 use Rattle.cnf_form.specs.declared.cnf.Cnf.{Cnf}
 use Rattle.rup_check.specs.Follows.{Follows}
 
--- the clauses before line k: those of the formula, and then those of the lines before it
-abbrev pub clauses_before : Cnf → List LogLine → ℕ → List (List ℤ)
-clauses_before cnf lines k = cnf.clauses ++ map (λ line. line.clause) (take k lines)
+-- the clauses that a line may name: those of the formula, and then those of the lines before it
+abbrev pub clauses_of : Cnf → List LogLine → List (List ℤ)
+clauses_of cnf before = cnf.clauses ++ map (λ line. line.clause) before
 
 -- line k follows from the clauses before it
 abbrev pub FollowsAt : Cnf → List LogLine → ℕ → Type 0
-FollowsAt cnf lines k = IsSomeAnd (slice_get lines k) (λ line. Follows cnf.variables (clauses_before cnf lines k) line)
+FollowsAt cnf lines k = IsSomeAnd (slice_get lines k) (λ line. Follows cnf.variables (clauses_of cnf (take k lines)) line)
 
 -- there is a last line, and its clause is empty
 abbrev pub EndsEmpty : List LogLine → Type 0

@@ -1,9 +1,7 @@
 -- When a line of a log follows: a hinted unit propagation ends in a false clause.
 -- The list `made` has the literals that were made true, in order. A literal is false where its negation was made true.
-use Rattle.std.specs.Prelude.{ℕ, ℤ, List, [], ◌∷◌, ◌++◌, ◌≢◌, Bool, IsTrue, All, Contains, IsSomeAnd, slice_get, map}
-use Rattle.std.specs.List.{list_any}
-use Rattle.std.specs.Ordering.{int_eq}
-use Rattle.std.proofs.Math.IntN.{neg_ℤ}
+use Rattle.std.specs.Prelude.{ℕ, ℤ, neg_ℤ, List, [], ◌∷◌, ◌++◌, ◌≢◌, All, Contains, IsSomeAnd, slice_get, map}
+
 use Rattle.cnf_form.specs.declared.log.LogLine.{LogLine}
 use Rattle.cnf_form.specs.Literals.{NamesUpTo}
 

@@ -5,6 +5,7 @@
 mod check;
 mod law;
 mod made;
+mod standing;
 
 pub use check::accepts;
 pub use law::accepted_has_no_solution;
