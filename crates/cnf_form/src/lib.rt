@@ -15,3 +15,6 @@ pub use clause::Clause;
 pub use cnf::Cnf;
 pub use log::{Log, LogLine};
 pub use write::{write_cnf, write_log};
+
+#[cfg(test)]
+mod tests;

@@ -1,5 +1,5 @@
 -- Lines that were checked, one after another.
-use Rattle.std.proofs.Common.{◌≡◌, ◌⊎◌, inl, inr, ⊎_elim, ℕ, ℤ, ◌+◌, ◌<◌, List, length, get_or, take, Option, Some, None, All, IsSomeAnd, slice_get, refl, sym, ◌∙◌, subst, arith}
+use Rattle.std.proofs.Common.{◌≡◌, inl, ⊎_elim, ℕ, ◌+◌, ◌<◌, List, take, Option, Some, All, IsSomeAnd, slice_get, sym, subst, arith}
 use Rattle.std.proofs.lemmas.List.{take_more}
 use Rattle.std.proofs.lemmas.List.Elements.{All-nil, All-push}
 use Rattle.std.proofs.lemmas.Option.{slice_get_within, get_or_from_slice_get}
@@ -8,7 +8,7 @@ use Rattle.cnf_form.specs.declared.log.Log.{Log}
 use Rattle.cnf_form.specs.declared.cnf.Cnf.{Cnf}
 use Rattle.cnf_form.specs.Literals.{NamesUpTo}
 use Rattle.rup_check.specs.Follows.{Follows}
-use Rattle.rup_check.specs.Accepted.{clauses_of, FollowsAt, EndsEmpty, IsAccepted, FailsAt}
+use Rattle.rup_check.specs.Accepted.{clauses_of, FollowsAt, FailsAt}
 use Rattle.rup_check.proofs.Cases.{nat_cases}
 
 -- the lines before line k follow

@@ -4,7 +4,7 @@ use Rattle.std.proofs.Math.ListN.{drop_of_length-le}
 use Rattle.std.proofs.lemmas.List.{drop_more}
 use Rattle.std.proofs.lemmas.List.Elements.{All-contains}
 use Rattle.rup_check.specs.Follows.{IsMade, IsFalse, IsUnit, Leads}
-use Rattle.rup_check.specs.Standings.{Stands, StandsAt}
+use Rattle.rup_check.specs.Standings.{StandsAt}
 use Rattle.rup_check.specs.declared.standing.Standing.{Standing}
 use Rattle.rup_check.specs.declared.standing.Standing.TheVariants.{False, UnitOf, Open}
 use Rattle.rup_check.proofs.Cases.{int_cases}

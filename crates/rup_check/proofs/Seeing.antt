@@ -1,5 +1,5 @@
 -- How a clause stands, literal by literal.
-use Rattle.std.proofs.Common.{◌≡◌, ◌≢◌, ◌⊎◌, inl, inr, ⊎_elim, ℕ, ℤ, neg_ℤ, List, [], ◌∷◌, ◌++◌, ◌+◌, ◌<◌, ◌≤◌, length, get_or, take, true, false, pos, Option, Some, None, All, Contains, unsigned_abs, refl, sym, ◌∙◌, ap, subst, arith}
+use Rattle.std.proofs.Common.{◌≡◌, ◌≢◌, ⊎_elim, ℕ, ℤ, neg_ℤ, List, [], ◌∷◌, ◌++◌, ◌+◌, ◌<◌, ◌≤◌, length, get_or, take, true, false, pos, Option, Some, None, Contains, unsigned_abs, refl, sym, ◌∙◌, ap, subst, arith}
 use Rattle.std.proofs.lemmas.List.Elements.{All-push, All-contains, All-weaker, Contains-push, Contains-append_left, Contains-get_or}
 use Rattle.std.proofs.lemmas.List.{take_more, get_or_default, get_or-take, length-take-le}
 use Rattle.std.specs.Option.{is_some}
@@ -8,9 +8,13 @@ use Rattle.cnf_form.specs.Literals.{IsLiteral, IsClause, NamesUpTo}
 use Rattle.rup_check.proofs.Cases.{int_cases}
 use Rattle.rup_check.specs.Follows.{IsMade, IsFalse, IsUnit}
 use Rattle.rup_check.specs.Trail.{IsWithin}
-use Rattle.rup_check.specs.Standings.{Stands, Seen}
-use Rattle.rup_check.specs.declared.standing.Standing.{Standing}
-use Rattle.rup_check.specs.declared.standing.Standing.TheVariants.{False, UnitOf, Open}
+use Rattle.rup_check.specs.Standings.{Stands}
+use Rattle.rup_check.specs.declared.standing.Standing.TheVariants.{Open}
+
+-- of the literals that were seen, all are false, or all but the open one
+abbrev pub Seen : List ℤ → List ℤ → Option ℤ → Type 0
+Seen made literals None = IsFalse made literals
+Seen made literals (Some l) = IsUnit made literals l
 
 -- one more literal, which is false
 pub Seen-false : (made literals : List ℤ) (open' : Option ℤ) (x : ℤ) → Seen made literals open' → IsMade made (neg_ℤ x) → Seen made (literals ++ x ∷ []) open'

@@ -1,18 +1,17 @@
 -- What is accepted has no solution.
-use Rattle.std.proofs.Common.{◌≡◌, ◌≢◌, ◌↔◌, ⊎_elim, inl, inr, ◌⊎◌, ℕ, zero, suc, ℤ, pos, negsuc, neg_ℤ, ◌+◌, ◌-◌, ◌<◌, Bool, true, false, not, ◌||◌, ◌≤◌, List, [], ◌∷◌, ◌++◌, length, take, map, get_or, Option, Some, None, IsTrue, All, Contains, IsSomeAnd, MatchOption, slice_get, refl, sym, ◌∙◌, ap, subst, arith}
-use Rattle.std.specs.List.{list_any}
+use Rattle.std.proofs.Common.{◌≡◌, ◌≢◌, ⊎_elim, ℕ, zero, suc, ℤ, pos, negsuc, neg_ℤ, ◌+◌, ◌-◌, ◌<◌, Bool, true, false, not, ◌||◌, ◌≤◌, List, [], ◌∷◌, ◌++◌, length, take, map, get_or, Option, Some, None, IsTrue, All, Contains, IsSomeAnd, MatchOption, slice_get, refl, sym, ◌∙◌, ap, subst, arith}
 use Rattle.std.proofs.lemmas.Bool.{false≢true}
-use Rattle.std.proofs.lemmas.List.Elements.{All-nil, All-cons, All-push, All-contains, All-append, All-map, All-get_or, All-weaker, Contains-push, Contains-push_cases, Contains-append_left, Contains-from_at}
-use Rattle.std.proofs.lemmas.List.Folds.{Any-from_list_any, list_any-from_Any}
+use Rattle.std.proofs.lemmas.List.Elements.{All-nil, All-cons, All-push, All-contains}
+use Rattle.std.proofs.lemmas.List.Folds.{Any-from_list_any}
 use Rattle.std.proofs.Common.{append_assoc, add-one}
 use Rattle.std.proofs.lemmas.List.{take_more, append-nil, map-append}
-use Rattle.std.proofs.lemmas.Option.{slice_get_within, get_or_from_slice_get, slice_get-get_or}
+use Rattle.std.proofs.lemmas.Option.{slice_get_within, get_or_from_slice_get}
 use Rattle.cnf_form.specs.declared.log.LogLine.{LogLine}
 use Rattle.cnf_form.specs.declared.log.Log.{Log}
 use Rattle.cnf_form.specs.declared.cnf.Cnf.{Cnf}
 use Rattle.cnf_form.specs.Truth.{literal_true, clause_true, Satisfies, HasNoSolution}
 use Rattle.rup_check.specs.Follows.{IsMade, IsFalse, IsUnit, Leads, Follows}
-use Rattle.rup_check.specs.Accepted.{clauses_of, FollowsAt, EndsEmpty, IsAccepted, FailsAt}
+use Rattle.rup_check.specs.Accepted.{clauses_of, FollowsAt, IsAccepted, FailsAt}
 use Rattle.rup_check.proofs.Cases.{int_cases}
 
 -- the assignment makes the literal true, where it is a literal

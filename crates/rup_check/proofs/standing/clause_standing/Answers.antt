@@ -1,4 +1,4 @@
-use Rattle.std.proofs.Common.{◌≡◌, w32, to_z, of_z, pos, get_or, neg_ℤ, Some, None, true, false, sym, refl, arith}
+use Rattle.std.proofs.Common.{◌≡◌, w32, to_z, of_z, pos, get_or, Some, true, false, arith}
 use Rattle.std.proofs.lemmas.Int.{to_z-of_z}
 use Rattle.std.proofs.lemmas.List.{take_all}
 use Rattle.std.proofs.lemmas.List.Elements.{Contains-get_or}
