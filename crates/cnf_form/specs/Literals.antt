@@ -18,6 +18,10 @@ pub record IsClause (literals : List ℤ) : Type 0 where
   pub each : All IsLiteral literals
   pub once : NamesOnce literals
 
+-- each of these lists is a clause
+pub record AreClauses (clauses : List (List ℤ)) : Type 0 where
+  pub each : All IsClause clauses
+
 -- no literal is of a variable above the number of variables
 abbrev pub NamesUpTo : ℕ → List ℤ → Type 0
 NamesUpTo variables literals = All (λ l. unsigned_abs l ≤ variables) literals

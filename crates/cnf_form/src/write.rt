@@ -2,6 +2,8 @@
 
 ghost use Rattle.std.specs.Prelude.{◌≡◌, ◌+◌, ◌++◌, codes, decimal, IfOk, OnOk};
 ghost use Rattle.std.specs.List.{flat_map};
+ghost use Rattle.cnf_form.specs.Literals.{AreClauses};
+ghost use Rattle.cnf_form.specs.Forms.{IsCnfText};
 ghost use Rattle.cnf_form.specs.Texts.{literals_text, clause_text, cnf_text, hints_text, line_text, log_text};
 
 use crate::clause::Clause;
@@ -14,13 +16,18 @@ use wc_outside::NoMemory;
 /// The text of a formula in DIMACS form: the line `p cnf V C`, with the numbers of variables and clauses, and then a
 /// line per clause, its literals each followed by a blank, and `0`.
 pub fn write_cnf(alloc: Global, cnf: &Cnf) -> Result<Vec<u8>, NoMemory>
-    ensures { IfOk result (λ text. text.items ≡ cnf_text cnf.now.variables cnf.now.clauses) }
+    ensures text { IfOk result (λ text. text.items ≡ cnf_text cnf.now.variables cnf.now.clauses) }
+    ensures form { IfOk result (λ text. IsCnfText text.items cnf.now.variables cnf.now.clauses) }
 {
-    cnf_bytes(alloc, cnf).map_err(|_| NoMemory)
+    match cnf_bytes(alloc, cnf) {
+        Ok(text) => Ok(text),
+        Err(_) => Err(NoMemory),
+    }
 }
 
 fn cnf_bytes(alloc: Global, cnf: &Cnf) -> Result<Vec<u8>, AllocError>
-    ensures { IfOk result (λ text. text.items ≡ cnf_text cnf.now.variables cnf.now.clauses) }
+    ensures text { IfOk result (λ text. text.items ≡ cnf_text cnf.now.variables cnf.now.clauses) }
+    ensures each { OnOk result (AreClauses cnf.now.clauses) }
 {
     let clauses = cnf.clauses();
     let mut text = Vec::from_slice(alloc, b"p cnf ")?;
@@ -59,7 +66,8 @@ fn push_number(text: &mut Vec<u8>, number: u32) -> Result<(), AllocError>
 }
 
 fn push_clauses(text: &mut Vec<u8>, clauses: &[Clause]) -> Result<(), AllocError>
-    ensures { OnOk result (text.new.items ≡ text.old.items ++ flat_map clause_text clauses.now) }
+    ensures text { OnOk result (text.new.items ≡ text.old.items ++ flat_map clause_text clauses.now) }
+    ensures each { OnOk result (AreClauses clauses.now) }
 {
     for clause in clauses {
         push_literals(text, clause.literals())?;
