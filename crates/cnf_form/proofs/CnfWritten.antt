@@ -1,8 +1,8 @@
 -- The written text of a formula is a text of its form.
-use Rattle.std.proofs.Common.{◌≡◌, ℕ, ℤ, pos, ◌+◌, ◌<◌, ◌≤◌, ◌^◌, Bool, true, false, not, List, [], ◌∷◌, ◌++◌, length, codes, map, filter, All, refl, sym, ◌∙◌, ap, arith, append_assoc}
+use Rattle.std.proofs.Common.{◌≡◌, ℕ, ℤ, pos, ◌≤◌, false, not, List, [], ◌∷◌, ◌++◌, length, codes, map, filter, All, refl, sym, ◌∙◌, ap, arith, append_assoc}
 use Rattle.std.specs.List.{flat_map}
 use Rattle.std.specs.Fmt.{decimal, signed_decimal}
-use Rattle.std.proofs.lemmas.List.{append-nil, map-append}
+use Rattle.std.proofs.lemmas.List.{map-append}
 use Rattle.std.proofs.lemmas.List.Folds.{flat_map-map}
 use Rattle.std.proofs.lemmas.List.Elements.{All-head, All-tail}
 use Rattle.std.proofs.lemmas.Fmt.{decimal_digit}
@@ -10,7 +10,7 @@ use Rattle.cnf_form.specs.Literals.{most, IsLiteral, IsClause}
 use Rattle.cnf_form.specs.Texts.{literals_text, clause_text, cnf_text}
 use Rattle.cnf_form.specs.Lines.{lines_of}
 use Rattle.cnf_form.specs.Forms.{words, begins_with, told_lines, numbers_of, IsFormula, IsCnfText}
-use Rattle.cnf_form.proofs.Written.{AllNumeric, IsNumeric, IsNumeric-decimal, IsNumeric-signed, words-word, begins_not, AllVisible, AllVisible-append, AllVisible-numeric, lines_of-line}
+use Rattle.cnf_form.proofs.Written.{IsNumeric-decimal, IsNumeric-signed, words-word, begins_not, AllVisible, AllVisible-append, AllVisible-numeric, lines_of-line}
 
 -- the words of written literals
 words-literals : (literals : List ℤ) (rest : List ℕ) → All IsLiteral literals → words (literals_text literals ++ rest) ≡ map signed_decimal literals ++ words rest

@@ -1,11 +1,11 @@
 -- Written numbers, and the words and lines that they make.
-use Rattle.std.proofs.Common.{◌≡◌, ◌==◌, ℕ, ℤ, pos, negsuc, suc, zero, ◌+◌, ◌%◌, ◌<◌, ◌≤◌, ◌^◌, Bool, true, false, List, [], ◌∷◌, ◌++◌, length, filter, unsigned_abs, refl, sym, ◌∙◌, ap, arith, append_assoc, length-append}
+use Rattle.std.proofs.Common.{◌≡◌, ◌==◌, ℕ, ℤ, pos, negsuc, suc, ◌+◌, ◌%◌, ◌<◌, ◌≤◌, ◌^◌, true, false, List, [], ◌∷◌, ◌++◌, length, filter, unsigned_abs, refl, ap, arith, length-append}
 use Rattle.std.specs.Fmt.{decimal, signed_decimal}
 use Rattle.std.proofs.lemmas.Fmt.{decimal_by_steps}
 use Rattle.std.proofs.lemmas.Bool.Decides.{nat_tests}
-use Rattle.cnf_form.specs.Literals.{most, IsLiteral}
-use Rattle.cnf_form.specs.Lines.{lines_of, onto_first}
-use Rattle.cnf_form.specs.Forms.{is_gap, onto_piece, pieces, has_bytes, words, begins_with}
+use Rattle.cnf_form.specs.Literals.{most}
+use Rattle.cnf_form.specs.Lines.{lines_of}
+use Rattle.cnf_form.specs.Forms.{is_gap, pieces, has_bytes, words, begins_with}
 
 -- each byte is a sign or a digit
 abbrev pub AllNumeric : List ℕ → Type 0

@@ -7,12 +7,14 @@
 mod assignment;
 mod clause;
 mod cnf;
+mod law;
 mod log;
 mod write;
 
 pub use assignment::Assignment;
 pub use clause::Clause;
 pub use cnf::Cnf;
+pub use law::one_formula;
 pub use log::{Log, LogLine};
 pub use write::{write_cnf, write_log};
 
