@@ -6,7 +6,7 @@ use Rattle.std.proofs.lemmas.Fmt.{decimal_injective, signed_decimal_injective}
 use Rattle.std.proofs.lemmas.List.Elements.{All-head, All-tail}
 use lib.Signed.{mag}
 use Rattle.cnf_form.specs.Literals.{most, IsLiteral, IsClause}
-use Rattle.cnf_form.specs.Forms.{words, told_lines, numbers_of, IsFormula, IsCnfText}
+use Rattle.cnf_form.specs.Forms.{words, numbers_of, IsCnfText}
 
 -- each number has at most 2,147,483,647 as its magnitude
 AllSmall : List ℤ → Type 0

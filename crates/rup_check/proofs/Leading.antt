@@ -53,18 +53,18 @@ Goes-stop earlier first hints made hint (next ∷ rest) answer goes more stands 
 last_at : (made : List ℤ) (found : Option (List ℤ)) (answer : Standing) → StandsAt made found answer → (answer ≡ False) ↔ IsSomeAnd found (λ literals. IsFalse made literals)
 last_at made None answer stands = (λ h. false_open (sym h ∙ stands), λ h. absurd h)
   where
-  false_open : ¬ (False ≡ Open)
-  false_open h = cc
+    false_open : ¬ (False ≡ Open)
+    false_open h = cc
 last_at made (Some literals) False stands = (λ _. stands, λ _. refl)
 last_at made (Some literals) (UnitOf l) stands =
     (λ h. absurd (not_same h), λ h. absurd (stands.not_false (All-contains (λ k. IsMade made (neg_ℤ k)) literals l h stands.named)))
   where
-  not_same : ¬ (UnitOf l ≡ False)
-  not_same h = cc
+    not_same : ¬ (UnitOf l ≡ False)
+    not_same h = cc
 last_at made (Some literals) Open stands = (λ h. absurd (not_same h), λ h. absurd (stands.0 h))
   where
-  not_same : ¬ (Open ≡ False)
-  not_same h = cc
+    not_same : ¬ (Open ≡ False)
+    not_same h = cc
 
 -- the last hinted clause
 pub Goes-last : (earlier : List (List ℤ)) (first : List ℤ) (hints : List ℕ) (made : List ℤ) (hint : ℕ) (answer : Standing) → Goes earlier first hints made (hint ∷ []) → StandsAt made (slice_get earlier hint) answer → (answer ≡ False) ↔ Leads earlier first hints

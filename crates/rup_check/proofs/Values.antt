@@ -96,18 +96,20 @@ Shows-push values literals l at shows within not_true not_false place =
     record {
       within = All-push (IsWithin (length (set values at w))) literals l (rw len shows.within) (rw len within);
       same = λ m within_m. ⊎_elim
-      (λ here. ⊎_elim
-      (λ (same : l ≡ m). (λ _. subst (IsMade (literals ++ l ∷ [])) same (Contains-push literals l), λ _. subst (λ k. literal_value (set values at w) k ≡ Some true) same (value-here values at l inside place)))
-      (λ (negated : neg_ℤ l ≡ m).
-      (λ yes. absurd (some_false (sym (subst (λ k. literal_value (set values at w) k ≡ Some false) negated (literal_value-neg (set values at w) l ∙ ap (option_map not) (value-here values at l inside place))) ∙ yes)),
-      λ made. absurd (⊎_elim (λ before. not_false (subst (IsMade literals) (sym negated) before)) (λ same. not_own_negation l within.0 (same ∙ sym negated)) (Contains-push_cases literals l m made))))
-      (same_variable l m (sym place ∙ here)))
-      (λ other.
-      let kept = value-other values at w m other in
-      let before = shows.same m (rw len at within_m) in
-      (λ yes. Contains-append_left literals (l ∷ []) m (before.0 (sym kept ∙ yes)),
-      λ made. ⊎_elim (λ in_front. kept ∙ before.1 in_front) (λ same. absurd (other (place ∙ ap unsigned_abs same))) (Contains-push_cases literals l m made)))
-      (nat_cases (at + 1) (unsigned_abs m));
+          (λ here. ⊎_elim
+          (λ (same : l ≡ m). (λ _. subst (IsMade (literals ++ l ∷ [])) same (Contains-push literals l), λ _. subst (λ k. literal_value (set values at w) k ≡ Some true) same (value-here values at l inside place)))
+          (λ (negated : neg_ℤ l ≡ m). (
+            λ yes. absurd (some_false (sym (subst (λ k. literal_value (set values at w) k ≡ Some false) negated (literal_value-neg (set values at w) l ∙ ap (option_map not) (value-here values at l inside place))) ∙ yes)),
+            λ made. absurd (⊎_elim (λ before. not_false (subst (IsMade literals) (sym negated) before)) (λ same. not_own_negation l within.0 (same ∙ sym negated)) (Contains-push_cases literals l m made)),
+          ))
+          (same_variable l m (sym place ∙ here)))
+          (λ other.
+          let kept = value-other values at w m other in
+          let before = shows.same m (rw len at within_m) in (
+            λ yes. Contains-append_left literals (l ∷ []) m (before.0 (sym kept ∙ yes)),
+            λ made. ⊎_elim (λ in_front. kept ∙ before.1 in_front) (λ same. absurd (other (place ∙ ap unsigned_abs same))) (Contains-push_cases literals l m made),
+          ))
+          (nat_cases (at + 1) (unsigned_abs m));
     }
 
 -- of the literals that the table has true, only these are left
@@ -123,12 +125,12 @@ Remain-next values l rest at remain inside place =
     let len : length (set values at None) ≡ length values = length-set values at None in
     record {
       only = λ m within yes. ⊎_elim
-      (λ here. absurd (some_none (sym yes ∙ value-gone values at m inside here)))
-      (λ other. ⊎_elim
-      (λ (same : l ≡ m). absurd (other (place ∙ ap unsigned_abs same)))
-      (λ behind. behind)
-      (cons_cases l rest m (remain.only m (rw len at within) (sym (value-other values at None m other) ∙ yes))))
-      (nat_cases (at + 1) (unsigned_abs m));
+          (λ here. absurd (some_none (sym yes ∙ value-gone values at m inside here)))
+          (λ other. ⊎_elim
+          (λ (same : l ≡ m). absurd (other (place ∙ ap unsigned_abs same)))
+          (λ behind. behind)
+          (cons_cases l rest m (remain.only m (rw len at within) (sym (value-other values at None m other) ∙ yes))))
+          (nat_cases (at + 1) (unsigned_abs m));
     }
 
 pub Shows-nothing : (values : List (Option Bool)) → Remain values [] → Shows values []

@@ -8,5 +8,4 @@ ghost use Rattle.rup_check.specs.Accepted.{IsAccepted};
 /// An accepted log means that no assignment satisfies its formula, whoever made the log.
 pub fn accepted_has_no_solution()
     ensures { (cnf : Cnf) (log : Log) → IsAccepted cnf log → HasNoSolution cnf.clauses }
-{
-}
+{}
