@@ -1,0 +1,4 @@
+pub mod Naming
+pub mod Written
+pub mod CnfWritten
+pub mod OneFormula

@@ -1,0 +1,5 @@
+pub mod Literals
+pub mod Truth
+pub mod Texts
+pub mod Lines
+pub mod Forms

@@ -1,0 +1,22 @@
+//! Formulas in conjunctive normal form, refutation logs, and their texts. Nothing here knows of C.
+//!
+//! A formula is a list of clauses over the variables from 1 up to a number. A log is a list of lines; each gives a
+//! clause and hints, the numbers of the clauses from which it follows.
+#![tactic(auto)]
+
+mod assignment;
+mod clause;
+mod cnf;
+mod law;
+mod log;
+mod write;
+
+pub use assignment::Assignment;
+pub use clause::Clause;
+pub use cnf::Cnf;
+pub use law::one_formula;
+pub use log::{Log, LogLine};
+pub use write::{write_cnf, write_log};
+
+#[cfg(test)]
+mod tests;

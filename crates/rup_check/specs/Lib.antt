@@ -1,0 +1,4 @@
+pub mod Follows
+pub mod Accepted
+pub mod Standings
+pub mod Trail
