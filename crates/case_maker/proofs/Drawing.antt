@@ -1,0 +1,63 @@
+-- States after more draws, and what is drawn from a later state on.
+use Rattle.std.proofs.Common.{◌≡◌, ℕ, zero, suc, ◌+◌, ◌*◌, ◌%◌, ◌≤◌, List, [], ◌∷◌, ◌++◌, map, length, refl, ap, sym, ◌∙◌, arith, add-one}
+use Rattle.std.specs.List.{range_with_len, flat_map, sum_by}
+use Rattle.std.proofs.Math.Nat.{mod-add-mod}
+use Rattle.std.proofs.lemmas.List.FromFn.{map-range_with_len_more, length-map-range_with_len}
+use Rattle.std.proofs.lemmas.List.{flat_map_more}
+use Rattle.std.proofs.lemmas.List.Sums.{sum_by-cons}
+use Rattle.case_maker.specs.declared.segment.Segment.{Segment}
+use Rattle.case_maker.specs.declared.segment.Segment.TheVariants.{If, IfElse, For}
+use Rattle.case_maker.specs.Draws.{next_state, state, draw, drawn_at}
+use Rattle.case_maker.specs.Segments.{segment_of, variable_of, segment_at, segments, blocks_of}
+use Rattle.case_maker.specs.Lines.{ended, lined, cost_line, cost_lines}
+
+-- a product that wraps before the sum does
+pub next_state-wraps : (s : ℕ) → (s * 25173 % 65536 + 13849) % 65536 ≡ next_state s
+unfolding next_state
+next_state-wraps s = mod-add-mod (s * 25173) 65536 13849
+
+pub state-more : (first n : ℕ) → state first (n + 1) ≡ next_state (state first n)
+state-more first n = rw add-one refl
+
+pub state-plus : (first m n : ℕ) → state first (m + n) ≡ state (state first m) n
+state-plus first m zero = ap (state first) (omega arith)
+state-plus first m (suc n) =
+    let e : m + suc n ≡ suc (m + n) = omega arith in
+    rw e (ap next_state (state-plus first m n))
+
+-- the next segment is the first one from the state that the segments before it left
+pub segment_at-next : (first j : ℕ) → segment_at (state first (3 * j)) 0 ≡ segment_at first j
+segment_at-next first j = rw (state-plus first (3 * j) 1, state-plus first (3 * j) 2, state-plus first (3 * j) 3) refl
+
+-- one more segment is drawn
+pub segments-more : (first j now next : ℕ) (old new : List Segment) (x : Segment) → old ≡ segments first j → now ≡ state first (3 * j) → x ≡ segment_at now 0 → next ≡ state now 3 → new ≡ old ++ x ∷ [] → (new ≡ segments first (j + 1)) × (next ≡ state first (3 * (j + 1)))
+segments-more first j now next old new x so_far reached drawn moved pushed =
+    let segment : x ≡ segment_at first j = drawn ∙ ap (λ s. segment_at s 0) reached ∙ segment_at-next first j in
+    let place : 3 * j + 3 ≡ 3 * (j + 1) = omega arith in (
+      pushed ∙ ap (λ xs. xs ++ x ∷ []) so_far ∙ ap (λ y. segments first j ++ y ∷ []) segment ∙ sym (map-range_with_len_more (segment_at first) 0 j j (omega arith)),
+      moved ∙ ap (λ s. state s 3) reached ∙ sym (state-plus first (3 * j) 3) ∙ ap (state first) place,
+    )
+
+-- the cost of one more block is drawn
+pub cost_lines-more : (first n now next number : ℕ) (before old new : List ℕ) → old ≡ before ++ lined (cost_lines first n) → now ≡ state first n → next ≡ next_state now → number ≡ drawn_at (next_state now) 20 → new ≡ old ++ ended (cost_line n (1 + number)) → (new ≡ before ++ lined (cost_lines first (n + 1))) × (next ≡ state first (n + 1))
+cost_lines-more first n now next number before old new so_far reached moved drawn pushed =
+    let after : next_state now ≡ state first (n + 1) = ap next_state reached ∙ sym (state-more first n) in
+    let cost : number ≡ draw first (n + 1) 20 = drawn ∙ ap (λ s. drawn_at s 20) after in
+    let line : ℕ → List ℕ = λ k. cost_line k (1 + draw first (k + 1) 20) in (
+      pushed ∙ ap (λ t. t ++ ended (cost_line n (1 + number))) so_far ∙ ap (λ k. before ++ lined (cost_lines first n) ++ ended (cost_line n (1 + k))) cost ∙ flat_map_more ended before (cost_lines first n) (line n) ∙ ap (λ ls. before ++ lined ls) (sym (map-range_with_len_more line 0 n n (omega arith))),
+      moved ∙ after,
+    )
+
+-- there are as many segments as the size says
+pub length-segments : (first size : ℕ) → length (segments first size) ≡ size
+length-segments first size = length-map-range_with_len (segment_at first) 0 size
+
+-- no segment has more than four blocks
+four_at_most : (s : Segment) → blocks_of s ≤ 4
+four_at_most (If v c) = omega arith
+four_at_most (IfElse v c) = omega arith
+four_at_most (For v b) = omega arith
+
+pub blocks-le : (ss : List Segment) → sum_by blocks_of ss ≤ 4 * length ss
+blocks-le [] = omega arith
+blocks-le (s ∷ ss) = omega (arith, four_at_most s, blocks-le ss, sum_by-cons blocks_of s ss)

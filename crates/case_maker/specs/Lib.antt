@@ -1,0 +1,4 @@
+pub mod Draws
+pub mod Segments
+pub mod Lines
+pub mod Case

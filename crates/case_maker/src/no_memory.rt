@@ -1,0 +1,5 @@
+//! Want of memory.
+
+/// A call wanted memory and got none.
+#[derive(Clone, Copy, Debug, PartialEq, Eq)]
+pub struct NoMemory;
