@@ -1,14 +1,11 @@
 -- States after more draws, and what is drawn from a later state on.
-use Rattle.std.proofs.Common.{◌≡◌, ℕ, zero, suc, ◌+◌, ◌*◌, ◌%◌, ◌≤◌, List, [], ◌∷◌, ◌++◌, map, length, refl, ap, sym, ◌∙◌, arith, add-one}
-use Rattle.std.specs.List.{range_with_len, flat_map, sum_by}
+use Rattle.std.proofs.Common.{◌≡◌, ℕ, zero, suc, ◌+◌, ◌*◌, ◌%◌, List, [], ◌∷◌, ◌++◌, length, refl, ap, sym, ◌∙◌, arith, add-one}
 use Rattle.std.proofs.Math.Nat.{mod-add-mod}
 use Rattle.std.proofs.lemmas.List.FromFn.{map-range_with_len_more, length-map-range_with_len}
 use Rattle.std.proofs.lemmas.List.{flat_map_more}
-use Rattle.std.proofs.lemmas.List.Sums.{sum_by-cons}
 use Rattle.case_maker.specs.declared.segment.Segment.{Segment}
-use Rattle.case_maker.specs.declared.segment.Segment.TheVariants.{If, IfElse, For}
 use Rattle.case_maker.specs.Draws.{next_state, state, draw, drawn_at}
-use Rattle.case_maker.specs.Segments.{segment_of, variable_of, segment_at, segments, blocks_of}
+use Rattle.case_maker.specs.Segments.{segment_at, segments}
 use Rattle.case_maker.specs.Lines.{ended, lined, cost_line, cost_lines}
 
 -- a product that wraps before the sum does
@@ -51,13 +48,3 @@ cost_lines-more first n now next number before old new so_far reached moved draw
 -- there are as many segments as the size says
 pub length-segments : (first size : ℕ) → length (segments first size) ≡ size
 length-segments first size = length-map-range_with_len (segment_at first) 0 size
-
--- no segment has more than four blocks
-four_at_most : (s : Segment) → blocks_of s ≤ 4
-four_at_most (If v c) = omega arith
-four_at_most (IfElse v c) = omega arith
-four_at_most (For v b) = omega arith
-
-pub blocks-le : (ss : List Segment) → sum_by blocks_of ss ≤ 4 * length ss
-blocks-le [] = omega arith
-blocks-le (s ∷ ss) = omega (arith, four_at_most s, blocks-le ss, sum_by-cons blocks_of s ss)

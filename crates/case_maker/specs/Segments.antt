@@ -31,14 +31,14 @@ segment_at first j =
 abbrev pub segments : ℕ → ℕ → List Segment
 segments first size = map (segment_at first) (range_with_len 0 size)
 
--- the blocks of a segment. An `if` has its condition and each of its branches; a `for` has its initialiser, its
--- condition, its step and its body
+-- the blocks of a segment: of an `if`, its condition and each of its branches; of a `for`, its initialiser, its condition,
+-- its step and its body
 abbrev pub blocks_of : Segment → ℕ
 blocks_of (If v c) = 2
 blocks_of (IfElse v c) = 3
 blocks_of (For v b) = 4
 
--- the blocks of `main`. Its two declarations are one block, since simple statements in a row are one, and no segment is
--- simple; then come those of the segments, and the `return` is the last
+-- the blocks of `main`. Simple statements in a row are one block, so its two declarations are one, and no segment joins it,
+-- since none is a simple statement. Then come the blocks of the segments, and the `return` is the last
 abbrev pub blocks : List Segment → ℕ
 blocks ss = 1 + sum_by blocks_of ss + 1

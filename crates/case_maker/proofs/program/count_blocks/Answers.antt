@@ -1,5 +1,5 @@
 use Rattle.std.proofs.Common.{arith}
-use Rattle.case_maker.proofs.Drawing.{blocks-le}
+use Rattle.case_maker.proofs.Blocks.{blocks-le}
 use Rattle.case_maker.proofs.program.count_blocks.Goals as goal
 
 pub overflow_add-result : goal.overflow_add-result
