@@ -17,3 +17,8 @@ pub mod Layouts
 pub mod WellFormed
 pub mod Asked
 pub mod Kept
+pub mod Symbols
+pub mod SpelledExpressions
+pub mod SpelledStatements
+pub mod Spelling
+pub mod Heights

@@ -6,8 +6,8 @@ use Rattle.c_tree.specs.Characters.{is_blank}
 use Rattle.c_tree.specs.Lexing.{Reaches}
 
 -- the bytes of a token
-abbrev pub lexeme : List ℕ → Token → List ℕ
-lexeme text t = slice_range text t.from t.to
+abbrev pub spelling : List ℕ → Token → List ℕ
+spelling text t = slice_range text t.from t.to
 
 -- between two places lie these tokens, in order, disjoint, and none of them empty
 abbrev pub AreInOrder : ℕ → List Token → ℕ → Type 0

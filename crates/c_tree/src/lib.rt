@@ -6,6 +6,7 @@ pub mod laws;
 mod name;
 mod no_memory;
 mod program;
+mod symbol;
 #[cfg(test)]
 mod tests;
 mod token;
@@ -16,6 +17,7 @@ mod value;
 pub use name::Name;
 pub use no_memory::NoMemory;
 pub use program::{BlockName, Costs, Func, Global, Input, Local, Program};
+pub use symbol::Symbol;
 pub use token::{Kind, Token};
 pub use tree::{BinOp, Expr, Place, Stmt, Target, Ty, UnOp, Var};
 pub use unit::{

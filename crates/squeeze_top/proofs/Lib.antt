@@ -2,3 +2,4 @@ mod DearLayers
 mod DearBounds
 mod Within
 mod Told
+pub mod Refusing

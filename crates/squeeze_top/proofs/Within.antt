@@ -1,5 +1,5 @@
 -- No run of a function without loops and calls costs more than its bound.
-use Rattle.std.proofs.Common.{◌≡◌, ℕ, ◌+◌, ◌≤◌, zero, suc, max, Bool, true, false, ◌&&◌, IsTrue, if◌then◌else◌, List, [], ◌∷◌, ◌++◌, length, Option, Some, None, get_or, refl, sym, ◌∙◌, ap, subst, arith, length-append}
+use Rattle.std.proofs.Common.{◌≡◌, ℕ, ◌+◌, ◌≤◌, ◌^◌, zero, suc, max, Bool, true, false, ◌&&◌, IsTrue, if◌then◌else◌, List, [], ◌∷◌, ◌++◌, length, Option, Some, None, get_or, refl, sym, ◌∙◌, ap, subst, arith, length-append}
 use Rattle.std.proofs.lemmas.List.Sums.{sum_by-le}
 use Rattle.std.specs.Prelude.{slice_get, option_and_then, unwrap_or, replicate, sum_by, map}
 use Rattle.c_tree.specs.declared.tree.Expr.{Expr}
@@ -20,7 +20,7 @@ use Rattle.c_tree.specs.Blocks.{is_simple, begun, blocks, row_blocks, list_block
 use Rattle.c_tree.specs.Statements.{Callee, Outcome, Ends, Undefined, OverBound, with_value, stored, after, then_do, block, entered, simple, return_value, exec, row_exec, list_exec}
 use Rattle.c_tree.specs.Runs.{Run, Ended, back, callee, run, run_of}
 use Rattle.c_tree.specs.Claims.{block_cost, cost, Above}
-use Rattle.c_parse.specs.Straight.{is_straight, row_straight, list_straight, IsStraight}
+use Rattle.c_form.specs.Straight.{is_straight, row_straight, list_straight, IsStraight}
 use Rattle.squeeze_top.specs.Dear.{dear, row_dear, list_dear, entry_body, bound_of, ones}
 
 -- the trace is no longer than d, and where something follows, it and k are no more than d
@@ -160,8 +160,8 @@ only_above gs f straight = record {
 
 -- ---- what a program of the form has
 
-pub straight_above : (p : Program) (n : ℕ) → IsStraight p n → Above p (ones p) (bound_of p)
-straight_above p n is = subst (λ (q : Program). Above q (ones q) (bound_of q)) (sym is.only) (only_above [] is.function is.straight)
+pub straight_above : (p : Program) → IsStraight p → Above p (ones p) (bound_of p)
+straight_above p is = subst (λ (q : Program). Above q (ones q) (bound_of q)) (sym is.only) (only_above [] is.function is.straight)
 
-pub straight_small : (p : Program) (n : ℕ) → IsStraight p n → list_blocks (entry_body p) false ≤ n
-straight_small p n is = subst (λ (q : Program). list_blocks (entry_body q) false ≤ n) (sym is.only) is.blocks
+pub straight_small : (p : Program) → IsStraight p → list_blocks (entry_body p) false ≤ 2 ^ 64
+straight_small p is = subst (λ (q : Program). list_blocks (entry_body q) false ≤ 2 ^ 64) (sym is.only) is.blocks

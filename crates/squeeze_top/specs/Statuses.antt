@@ -3,7 +3,7 @@ use Rattle.std.specs.Prelude.{ℕ}
 use Rattle.squeeze_top.specs.declared.status.Status.{Status}
 use Rattle.squeeze_top.specs.declared.status.Status.TheVariants.{Whole, Inexact, Words, Program, Costs, ReadFault, WriteFault, NoMemory}
 use Rattle.squeeze_top.specs.declared.verdict.Verdict.{Verdict}
-use Rattle.squeeze_top.specs.declared.verdict.Verdict.TheVariants.{Bound, WordsRefused, ProgramSize, ProgramForm}
+use Rattle.squeeze_top.specs.declared.verdict.Verdict.TheVariants.{Bound, WordsRefused, Refused}
 
 abbrev pub code_of : Status → ℕ
 code_of Whole = 0
@@ -18,5 +18,4 @@ code_of NoMemory = 7
 abbrev pub status_of : Verdict → Status
 status_of (Bound n) = Whole
 status_of WordsRefused = Words
-status_of ProgramSize = Program
-status_of ProgramForm = Program
+status_of (Refused refusal) = Program

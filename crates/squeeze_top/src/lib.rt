@@ -5,6 +5,9 @@
 #![tactic(auto)]
 
 mod dear;
+mod line;
+mod reading;
+mod refusal;
 mod status;
 #[cfg(test)]
 mod tests;

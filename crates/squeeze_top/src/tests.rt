@@ -115,32 +115,59 @@ fn programs_of_the_form(rt: HostRuntime) -> Result<(), Fail> {
 }
 
 #[test]
-fn texts_outside_the_form(rt: HostRuntime) -> Result<(), Fail> {
+fn what_separates_tokens_may_stand_between_them(rt: HostRuntime) -> Result<(), Fail> {
+    for (text, line) in [
+        ("int main(void) { /* c */ return 0; }", "bound 1\n"),
+        ("int main(void) { return 0; } // c", "bound 1\n"),
+        ("#pragma once\nint main(void) { return 0; }", "bound 1\n"),
+        ("# 1 \"f.c\"\nint main(void) { return 0x1u; }", "bound 1\n"),
+        ("int main(void) { int a, b; return 1 * 2; }", "bound 2\n"),
+    ] {
+        judged(&rt, &["bound", "f.c"], text, 0, line)?;
+    }
+    Ok(())
+}
+
+#[test]
+fn texts_that_are_no_tokens(rt: HostRuntime) -> Result<(), Fail> {
+    for (text, line) in [
+        ("@", "program token Byte at 0\n"),
+        ("int main(void) { return 0; } /*", "program token Comment at 29\n"),
+        (
+            "int main(void) { return 2147483648; }",
+            "program token Number at 24\n",
+        ),
+        ("#define X\n@", "program token Directive at 0\n"),
+    ] {
+        judged(&rt, &["bound", "f.c"], text, 3, line)?;
+    }
+    Ok(())
+}
+
+#[test]
+fn tokens_that_spell_no_unit(rt: HostRuntime) -> Result<(), Fail> {
+    for (text, line) in [
+        // The place is the brace where a semicolon is missing.
+        ("int main(void) { return 0 }", "program parse Syntax at 26\n"),
+        ("int main(void) { return 0;", "program parse Syntax at 26\n"),
+        ("}", "program parse Syntax at 0\n"),
+    ] {
+        judged(&rt, &["bound", "f.c"], text, 3, line)?;
+    }
+    Ok(())
+}
+
+#[test]
+fn units_outside_the_form(rt: HostRuntime) -> Result<(), Fail> {
     for text in [
         "",
-        "int main(void) { return 1 * 2; }",
-        "int main(void) { return 2147483648; }",
-        "int main(void) { return 00; }",
-        "int main(void) { return 0x1; }",
-        "int main(void) { return 1u; }",
-        "intmain(void) { return 0; }",
         "int f(void) { return 0; }",
         "void main(void) { }",
         "int main(void) { return 0; } int x;",
-        "int main(void) { return 0 }",
         "int main(void) { return; }",
-        "int main(void) { return 1 = = 1; }",
         "int main(void) { return -1; }",
         "int main(void) { return (int) 1; }",
-        "int main(void) { int a, b; return 0; }",
-        "int main(int) { return 0; }",
         "int main(int x) { while (x) x = 0; return x; }",
-        "int main(int x) { if (x) int y; return 0; }",
-        // Only blanks may stand between tokens.
-        "int main(void) { /* c */ return 0; }",
-        "int main(void) { return 0; } // c",
-        "int main(void) { return 0; } /*",
-        "#pragma once\nint main(void) { return 0; }",
         // Names.
         "int main(void) { return a; }",
         "int main(void) { return main; }",
@@ -175,7 +202,10 @@ fn nested(
 fn heights_and_inputs_have_limits(rt: HostRuntime) -> Result<(), Fail> {
     let alloc = rt.alloc();
     // A number has height 1, each pair of parentheses and the `return` 1 more.
-    for (count, code, line) in [(126, 0, "bound 1\n"), (127, 3, "program form\n")] {
+    for (count, code, line) in [
+        (126, 0, "bound 1\n"),
+        (127, 3, "program parse Syntax at 150\n"),
+    ] {
         let mut text = nested(alloc, "int main(void) { return ", "(", count, "0")?;
         text.push_str(nested(alloc, "", ")", count, "; }")?.as_str())?;
         judged(&rt, &["bound", "f.c"], text.as_str(), code, line)?;

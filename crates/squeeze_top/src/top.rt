@@ -4,13 +4,15 @@ ghost use Rattle.std.specs.Prelude.{◌≡◌, ◌≢◌, ◌≤◌, ◌⊎◌, 
 ghost use Rattle.wc_outside.specs.Causes.{Rose};
 ghost use Rattle.wc_outside.specs.Growth.{Grew, GrewByPrefix};
 ghost use Rattle.c_tree.specs.declared.program.Program.{Program};
-ghost use Rattle.c_parse.specs.Form.{SpellsProgram};
-ghost use Rattle.squeeze_top.specs.Verdicts.{IsText, IsAccepted, IsToldAs, IsToldBound, IsToldInPart, line_of};
-ghost use Rattle.squeeze_top.specs.declared.verdict.Verdict.TheVariants.{WordsRefused, ProgramSize, ProgramForm};
+ghost use Rattle.squeeze_top.specs.Accepted.{IsAccepted, SpellsProgram};
+ghost use Rattle.squeeze_top.specs.Lines.{line_of};
+ghost use Rattle.squeeze_top.specs.Verdicts.{IsText, IsToldAs, IsToldBound, IsToldRefused, IsToldInPart};
+ghost use Rattle.squeeze_top.specs.declared.verdict.Verdict.TheVariants.{WordsRefused};
 ghost use Rattle.squeeze_top.specs.Statuses.{status_of};
 ghost use Rattle.squeeze_top.specs.Words.{file_to_bound};
 
 use crate::Status;
+use crate::line::line_of;
 use crate::verdict::{Stop, Verdict, judge};
 use std::alloc::Global;
 use std::sync::Wait;
@@ -26,7 +28,7 @@ fn tell<K: Sink>(alloc: Global, out: &mut K, verdict: Verdict) -> Status
     ensures kept { result ≢ Status.WriteFault → K.faults out.new ≡ K.faults out.old }
     ensures later { K.faults out.old ≤ K.faults out.new }
 {
-    let Ok(line) = verdict.line(alloc) else {
+    let Ok(line) = line_of(alloc, verdict) else {
         return Status::NoMemory;
     };
     match put_all(out, &line) {
@@ -39,8 +41,9 @@ fn tell<K: Sink>(alloc: Global, out: &mut K, verdict: Verdict) -> Status
 /// line. `rt` and `gate` are for modes with workers, of which there is none today.
 ///
 /// A file is read by the words `bound NAME`, where NAME begins with no `-`. The order of refusals is: the words, a fault
-/// of the shelf, a text of more than 1,048,576 bytes, a text outside the form, a fault of the sink. Want of memory may come
-/// before any of them. The clauses that speak of a text hold where the shelf tells its contents.
+/// of the shelf, a text of more than 1,048,576 bytes, one that is no tokens, one whose tokens spell no unit that is no
+/// higher than 128, one whose unit is not of the form, a fault of the sink. Want of memory may come before any of them. The
+/// clauses that speak of a text hold where the shelf tells its contents.
 pub fn wcet_main<R: Threads + Wait + Sync, S: Shelf, K: Sink, G: Gate + Sync>(
     _rt: &R,
     alloc: Global,
@@ -52,8 +55,7 @@ pub fn wcet_main<R: Threads + Wait + Sync, S: Shelf, K: Sink, G: Gate + Sync>(
     // What each status says of the words, of the file and of what was written.
     ensures whole { result ≡ Status.Whole → IsToldBound (map (λ w. w.now) words.now) (S.contents shelf.old) (K.written out.old) (K.written out.new) }
     ensures words { result ≡ Status.Words → IsToldAs WordsRefused (map (λ w. w.now) words.now) (S.contents shelf.old) (K.written out.old) (K.written out.new) }
-    ensures program { result ≡ Status.Program → IsToldAs ProgramSize (map (λ w. w.now) words.now) (S.contents shelf.old) (K.written out.old) (K.written out.new)
-        ⊎ IsToldAs ProgramForm (map (λ w. w.now) words.now) (S.contents shelf.old) (K.written out.old) (K.written out.new) }
+    ensures program { result ≡ Status.Program → IsToldRefused (map (λ w. w.now) words.now) (S.contents shelf.old) (K.written out.old) (K.written out.new) }
     ensures read { result ≡ Status.ReadFault → IsSome (file_to_bound (map (λ w. w.now) words.now)) × Rose (S.faults shelf.old) (S.faults shelf.new) × (K.written out.new ≡ K.written out.old) }
     ensures write { result ≡ Status.WriteFault → IsToldInPart (map (λ w. w.now) words.now) (S.contents shelf.old) (K.written out.old) (K.written out.new) × Rose (K.faults out.old) (K.faults out.new) }
     ensures memory { result ≡ Status.NoMemory → K.written out.new ≡ K.written out.old }

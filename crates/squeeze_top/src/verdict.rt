@@ -1,25 +1,30 @@
 //! What is found of the words and of the file.
 
-ghost use Rattle.std.specs.Prelude.{◌≡◌, ◌≢◌, ◌≤◌, ◌++◌, length, map, codes, decimal, IfOk, OnErr, IsErrOf, IsSome};
+ghost use Rattle.std.specs.Prelude.{◌≡◌, ◌≢◌, ◌≤◌, length, map, IfOk, IfErr, OnErr, IsErrOf, IsSome};
 ghost use Rattle.wc_outside.specs.Causes.{Rose};
-ghost use Rattle.squeeze_top.specs.Verdicts.{Holds, HoldsOf, line_of};
+ghost use Rattle.c_tree.specs.declared.program.Program.{Program};
+ghost use Rattle.c_form.specs.Straight.{IsStraight};
+ghost use Rattle.squeeze_top.specs.Accepted.{IsAccepted};
+ghost use Rattle.squeeze_top.specs.Failures.{IsFailure};
+ghost use Rattle.squeeze_top.specs.Verdicts.{Holds, HoldsOf};
 ghost use Rattle.squeeze_top.specs.Statuses.{status_of};
 ghost use Rattle.squeeze_top.specs.Words.{file_to_bound};
 
 use crate::Status;
 use crate::dear::bound_of;
+use crate::reading::{Failure, unit_of};
+use crate::refusal::Refusal;
 use crate::words::file_to_bound;
-use c_parse::{FormFault, read_form};
-use itoa::Buffer;
-use std::alloc::{AllocError, Global};
+use c_form::{FormFault, check_form};
+use c_tree::Program;
+use std::alloc::Global;
 use wc_outside::{ReadFault, Shelf, read_whole};
 
 #[derive(Clone, Copy, Debug, PartialEq, Eq)]
 pub(crate) enum Verdict {
     Bound(u128),
     WordsRefused,
-    ProgramSize,
-    ProgramForm,
+    Refused(Refusal),
 }
 
 /// Why there is no verdict.
@@ -30,37 +35,15 @@ pub(crate) enum Stop {
 }
 
 impl Verdict {
-    /// The line that is written.
-    pub(crate) fn line(self, alloc: Global) -> Result<Vec<u8>, AllocError>
-        ensures { IfOk result (λ line. line.items ≡ line_of self) }
-    {
-        match self {
-            Verdict::Bound(bound) => bound_line(alloc, bound),
-            Verdict::WordsRefused => Vec::from_slice(alloc, b"words refused\n"),
-            Verdict::ProgramSize => Vec::from_slice(alloc, b"program size\n"),
-            Verdict::ProgramForm => Vec::from_slice(alloc, b"program form\n"),
-        }
-    }
-
     pub(crate) fn status(self) -> Status
         ensures { result ≡ status_of self }
     {
         match self {
             Verdict::Bound(_) => Status::Whole,
             Verdict::WordsRefused => Status::Words,
-            Verdict::ProgramSize | Verdict::ProgramForm => Status::Program,
+            Verdict::Refused(_) => Status::Program,
         }
     }
-}
-
-fn bound_line(alloc: Global, bound: u128) -> Result<Vec<u8>, AllocError>
-    ensures { IfOk result (λ line. line.items ≡ codes "bound " ++ decimal bound ++ codes "\n") }
-{
-    let mut buffer = Buffer::new();
-    let mut line = Vec::from_slice(alloc, b"bound ")?;
-    line.extend_from_slice(buffer.format(bound).as_bytes())?;
-    line.extend_from_slice(b"\n")?;
-    Ok(line)
 }
 
 /// Judges the words and the file that they name.
@@ -77,7 +60,7 @@ pub(crate) fn judge<S: Shelf>(alloc: Global, words: &[&str], shelf: &mut S) -> R
     };
     match read_whole(alloc, shelf, name) {
         Ok(text) => judge_text(alloc, &text),
-        Err(ReadFault::TooLong) => Ok(Verdict::ProgramSize),
+        Err(ReadFault::TooLong) => Ok(Verdict::Refused(Refusal::Size)),
         Err(ReadFault::Failed) => Err(Stop::ReadFault),
         Err(ReadFault::NoMemory) => Err(Stop::NoMemory),
     }
@@ -89,9 +72,24 @@ fn judge_text(alloc: Global, text: &[u8]) -> Result<Verdict, Stop>
     ensures holds { IfOk result (λ verdict. HoldsOf verdict text.now) }
     ensures memory { OnErr result (result ≡ Err Stop.NoMemory) }
 {
-    match read_form(alloc, text) {
+    match program_of(alloc, text) {
         Ok(program) => Ok(Verdict::Bound(bound_of(&program))),
-        Err(FormFault::NotForm) => Ok(Verdict::ProgramForm),
-        Err(FormFault::NoMemory) => Err(Stop::NoMemory),
+        Err(Failure::Refused(refusal)) => Ok(Verdict::Refused(refusal)),
+        Err(Failure::NoMemory) => Err(Stop::NoMemory),
+    }
+}
+
+// The program of a text.
+fn program_of(alloc: Global, text: &[u8]) -> Result<Program, Failure>
+    requires { length text.now ≤ 1048576 }
+    ensures accepted { IfOk result (λ program. IsAccepted text.now program) }
+    ensures straight { IfOk result (λ program. IsStraight program) }
+    ensures failed { IfErr result (λ failure. IsFailure failure text.now) }
+{
+    let unit = unit_of(alloc, text)?;
+    match check_form(alloc, &unit) {
+        Ok(program) => Ok(program),
+        Err(FormFault::NotForm) => Err(Failure::Refused(Refusal::Form)),
+        Err(FormFault::NoMemory) => Err(Failure::NoMemory),
     }
 }

@@ -1,0 +1,74 @@
+-- Which texts are accepted, and why a text is refused.
+use Rattle.std.specs.Prelude.{◌≡◌, ◌≤◌, ℕ, List, length}
+use Rattle.c_tree.specs.declared.token.Token.{Token}
+use Rattle.c_tree.specs.declared.unit.Unit.{Unit as Tree}
+use Rattle.c_tree.specs.declared.program.Program.{Program}
+use Rattle.c_tree.specs.Lexing.{Lexes}
+use Rattle.c_tree.specs.Spelling.{Spells}
+use Rattle.c_tree.specs.Heights.{unit_height}
+use Rattle.c_token.specs.declared.fault.TokenFault.{TokenFault}
+use Rattle.c_token.specs.declared.fault.TokenFault.TheVariants as token
+use Rattle.c_token.specs.Faults.{HasStrayByte, HasOpenComment, HasBadNumber, HasBadDirective}
+use Rattle.c_parse.specs.declared.fault.ParseFault.{ParseFault}
+use Rattle.c_parse.specs.declared.fault.ParseFault.TheVariants as parse
+use Rattle.c_parse.specs.Spelling.{IsPlace}
+use Rattle.c_form.specs.Form.{IsOfForm}
+use Rattle.squeeze_top.specs.declared.refusal.Refusal.{Refusal}
+use Rattle.squeeze_top.specs.declared.refusal.Refusal.TheVariants.{Size, Tokens, Parse, Form}
+
+-- the text's tokens spell the unit, which is no higher than 128
+pub record IsRead (text : List ℕ) (unit : Tree) : Type 0 where
+  pub tokens : List Token
+  pub lexed : Lexes text tokens
+  pub spelled : Spells text tokens unit
+  pub low : unit_height unit ≤ 128
+
+-- the text's unit is of the form, as the program
+pub record SpellsProgram (text : List ℕ) (program : Program) : Type 0 where
+  pub unit : Tree
+  pub read : IsRead text unit
+  pub form : IsOfForm unit program
+
+-- the text is no longer than a text may be, and spells the program
+pub record IsAccepted (text : List ℕ) (program : Program) : Type 0 where
+  pub short : length text ≤ 1048576
+  pub spells : SpellsProgram text program
+
+-- what a fault of tokens says of the text
+abbrev pub TokenCause : TokenFault → List ℕ → Type 0
+TokenCause (token.Byte at) text = HasStrayByte text at
+TokenCause (token.Comment at) text = HasOpenComment text at
+TokenCause (token.Number at) text = HasBadNumber text at
+TokenCause (token.Directive at) text = HasBadDirective text at
+TokenCause token.NoMemory text = ⊥
+
+-- the first place of the text that cannot be read, where it is no tokens
+pub record HasNoTokens (fault : TokenFault) (text : List ℕ) : Type 0 where
+  pub cause : TokenCause fault text
+  pub none : (tokens : List Token) → ¬ (Lexes text tokens)
+
+-- a refusal of the grammar is `Syntax`, at the first byte of a token or the text's end
+abbrev pub ParseCause : ParseFault → List ℕ → List Token → Type 0
+ParseCause (parse.Syntax at) text tokens = IsPlace text tokens at
+ParseCause (parse.Depth at) text tokens = ⊥
+ParseCause parse.NoMemory text tokens = ⊥
+
+-- the text is tokens, and they spell no unit that is no higher than 128
+pub record HasNoUnit (fault : ParseFault) (text : List ℕ) : Type 0 where
+  pub tokens : List Token
+  pub lexed : Lexes text tokens
+  pub cause : ParseCause fault text tokens
+  pub none : (unit : Tree) → ¬ (IsRead text unit)
+
+-- the text has a unit, and it is no program
+pub record HasNoProgram (text : List ℕ) : Type 0 where
+  pub unit : Tree
+  pub read : IsRead text unit
+  pub none : (program : Program) → ¬ (SpellsProgram text program)
+
+-- what a refusal says of the text
+abbrev pub IsRefused : Refusal → List ℕ → Type 0
+IsRefused Size text = 1048577 ≤ length text
+IsRefused (Tokens fault) text = (length text ≤ 1048576) × HasNoTokens fault text
+IsRefused (Parse fault) text = (length text ≤ 1048576) × HasNoUnit fault text
+IsRefused Form text = (length text ≤ 1048576) × HasNoProgram text
