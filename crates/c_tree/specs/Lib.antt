@@ -22,3 +22,8 @@ pub mod SpelledExpressions
 pub mod SpelledStatements
 pub mod Spelling
 pub mod Heights
+pub mod Scopes
+pub mod Constants
+pub mod Naming
+pub mod Uses
+pub mod Refusals
