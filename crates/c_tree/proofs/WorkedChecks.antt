@@ -1,27 +1,19 @@
 -- Small units: the faults that they have, and the programs that they are.
-use Rattle.std.proofs.Common.{◌≡◌, ℕ, true, false, List, [], ◌∷◌, Option, Some, None, refl}
+use Rattle.std.proofs.Common.{◌≡◌, ℕ, false, List, [], ◌∷◌, Some, None, refl}
 use Rattle.std.specs.Prelude.{codes}
 use Rattle.c_tree.specs.declared.tree.Ty.TheVariants as ty
-use Rattle.c_tree.specs.declared.tree.Var.TheVariants.{Local}
-use Rattle.c_tree.specs.declared.tree.Expr.TheVariants as expr
-use Rattle.c_tree.specs.declared.tree.Stmt.TheVariants as stmt
 use Rattle.c_tree.specs.declared.unit.Spot.{Spot}
-use Rattle.c_tree.specs.declared.unit.RawExpr.{RawExpr}
-use Rattle.c_tree.specs.declared.unit.RawExpr.TheVariants.{Num, Name}
-use Rattle.c_tree.specs.declared.unit.RawExpr.TheBlock as in_expr
 use Rattle.c_tree.specs.declared.unit.RawShape.TheVariants as shape
 use Rattle.c_tree.specs.declared.unit.RawStmt.{RawStmt}
-use Rattle.c_tree.specs.declared.unit.RawStmt.TheVariants.{Declare, Return, Break, Group}
+use Rattle.c_tree.specs.declared.unit.RawStmt.TheVariants.{Declare, Group}
 use Rattle.c_tree.specs.declared.unit.RawStmt.TheBlock as in_stmt
 use Rattle.c_tree.specs.declared.unit.RawFunc.{RawFunc}
 use Rattle.c_tree.specs.declared.unit.RawTop.TheVariants.{Func}
 use Rattle.c_tree.specs.declared.unit.Unit.{Unit as Tree}
-use Rattle.c_tree.specs.Constants as constants
 use Rattle.c_tree.specs.Spans as spans
 use Rattle.c_tree.specs.Naming as naming
 use Rattle.c_tree.specs.Uses as uses
-use Rattle.c_tree.specs.Refusals as refusals
-use Rattle.c_tree.specs.Refusals.{Refusal, refusal, NoName, Twice, NoValue, Stray, NoEntry, faults}
+use Rattle.c_tree.specs.Refusals.{refusal, Twice, NoEntry, faults}
 use denote.Hole.Carrier.{hidden}
 
 spot : List ℕ → ℕ → Spot
