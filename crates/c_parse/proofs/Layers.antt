@@ -13,7 +13,7 @@ use Rattle.c_tree.specs.declared.unit.RawStmt.TheVariants as stmt
 use Rattle.c_tree.specs.declared.unit.RawStmt.TheVariants.{Empty, Declare, Assign, Call, Break, Continue, Return, If', While', Do', For', Group'}
 use Rattle.c_tree.specs.declared.unit.RawStmt.TheBlock as in_stmt
 use denote.Hole.Carrier.{hidden}
-use Rattle.c_parse.specs.Height.{height, row_height, option_height, shape_height, place_height, stmt_height, stmts_height, body_height}
+use Rattle.c_tree.specs.Heights.{height, row_height, option_height, shape_height, place_height, stmt_height, stmts_height, body_height}
 
 pub height-Num : (at : ℕ) (to : Ty) (n : ℕ) → height (Num at to n) ≡ 1
 unfolding height

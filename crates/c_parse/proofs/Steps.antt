@@ -1,11 +1,11 @@
 -- What a step of reading does at a token whose symbol is known, and what a token is that a step has seen.
 use Rattle.std.proofs.Common.{◌≡◌, ◌<◌, Bool, true, false, cond, List, [], ◌∷◌, length, Ok, Err, refl, rules, arith}
-use denote.Enum.Bare.{sameb, same_true, true_same}
-use Rattle.c_parse.specs.contracts.symbol.Symbol.{the_type}
 use Rattle.c_parse.specs.declared.fault.Fault.TheVariants.{Syntax}
-use Rattle.c_parse.specs.declared.symbol.Symbol.{Symbol}
-use Rattle.c_parse.specs.Lexeme.{Lexeme}
-use Rattle.c_parse.specs.Parser.{Outcome, Parser, and_then, sees, token, expect}
+use Rattle.c_tree.specs.declared.symbol.Symbol.{Symbol}
+use Rattle.c_tree.specs.Symbols.{Lexeme}
+use Rattle.c_parse.specs.Same.{same}
+use Rattle.c_parse.proofs.SameSymbol.{same-yes, same-true}
+use Rattle.c_parse.specs.Parser.{Outcome, Parser, and_then, head, sees, token, expect}
 
 pub sees-some : (m : Symbol) (ts : List Lexeme) → sees m ts ≡ true → 0 < length ts
 unfolding sees
@@ -16,15 +16,20 @@ pub ruleset seeing = (sees-some)
 
 pub sees-yes : (m : Symbol) (t : Lexeme) (ts : List Lexeme) → t.symbol ≡ m → sees m (t ∷ ts) ≡ true
 unfolding sees
-sees-yes m t ts h = true_same the_type t.symbol m h
+sees-yes m t ts h = same-yes t.symbol m h
 
-pub sees-no : (m f : Symbol) (t : Lexeme) (ts : List Lexeme) → t.symbol ≡ f → sameb the_type f m ≡ false → sees m (t ∷ ts) ≡ false
+pub sees-no : (m f : Symbol) (t : Lexeme) (ts : List Lexeme) → t.symbol ≡ f → same f m ≡ false → sees m (t ∷ ts) ≡ false
 unfolding sees
 sees-no m f t ts h differs = rw h differs
 
 pub sees-is : (m : Symbol) (t : Lexeme) (ts : List Lexeme) → sees m (t ∷ ts) ≡ true → t.symbol ≡ m
 unfolding sees
-sees-is m t ts h = same_true the_type (search rules) t.symbol m h
+sees-is m t ts h = same-true t.symbol m h
+
+pub head-is : (m : Symbol) (ts : List Lexeme) → sees m ts ≡ true → (head ts).symbol ≡ m
+unfolding sees
+head-is m [] h = cc
+head-is m (t ∷ ts) h = sees-is m t ts h
 
 pub token-yes : {A : Type 0} (m : Symbol) (view : Lexeme → A) (t : Lexeme) (ts : List Lexeme) → t.symbol ≡ m → token m view (t ∷ ts) ≡ Ok (view t, ts)
 unfolding token

@@ -1,7 +1,7 @@
 //! Trees with their heights.
 
 ghost use Rattle.std.specs.Prelude.{◌≡◌};
-ghost use Rattle.c_parse.specs.Height as of;
+ghost use Rattle.c_tree.specs.Heights as of;
 
 use c_tree::{RawExpr, RawStmt};
 use sqlite_items::Items;
@@ -28,4 +28,12 @@ pub struct MeasuredList {
     pub list: Items<RawStmt>,
     pub height: usize,
     ghost exact: { height ≡ of.body_height list },
+}
+
+/// Expressions with commas between them, with the greatest of their heights.
+#[derive(Drop)]
+pub struct MeasuredValues {
+    pub list: Items<RawExpr>,
+    pub height: usize,
+    ghost exact: { height ≡ of.list_height list },
 }
