@@ -2,6 +2,7 @@ pub mod Same
 pub mod Lexeme
 pub mod Parser
 pub mod Reads
+pub mod Going
 pub mod ReadExpr
 pub mod Statements
 pub mod ReadStmt

@@ -3,12 +3,13 @@
 ghost use Rattle.std.specs.Prelude.{◌≡◌, ◌<◌, true, length, All, IfOk, Ok, Err};
 ghost use Rattle.c_tree.specs.Heights.{height};
 ghost use Rattle.c_tree.specs.Symbols.{lexeme, lexemes, spot};
+ghost use Rattle.c_parse.specs.Going as reading;
 ghost use Rattle.c_parse.specs.Lexeme.{IsWithin, constant, loop_bound};
 ghost use Rattle.c_parse.specs.Parser as spec;
 ghost use Rattle.c_parse.specs.Reads.{Reads};
 
 use crate::fault::Fault;
-use crate::symbol::{bound_of, constant_of, symbol_of};
+use crate::symbol::{Next, bound_of, constant_of, next_of, symbol_of};
 use c_tree::{Name, RawBound, RawExpr, Spot, Symbol, Token, Ty};
 use std::alloc::{AllocError, Global};
 use std::marker::Model;
@@ -24,7 +25,8 @@ pub struct Reader<'a> {
 impl<'a> Model for Reader<'a> {
     ghost use Rattle.std.specs.Prelude.{List, All};
     ghost use Rattle.c_tree.specs.Symbols.{Lexeme, lexemes};
-    ghost use Rattle.c_parse.specs.Lexeme.{IsWithin};
+    ghost use Rattle.c_parse.specs.Going as reading;
+ghost use Rattle.c_parse.specs.Lexeme.{IsWithin};
 
     ghost Value = { List Lexeme };
 
@@ -84,7 +86,7 @@ impl<'a> Reader<'a> {
 
     /// The place of the next token.
     #[tactic(auto, using(crate::proofs::Tokens::front), unfolding(c_tree::specs::Symbols::lexeme))]
-    fn place(&self) -> u32
+    pub fn place(&self) -> u32
         requires { 0 < length self.now }
         ensures { result ≡ (spec.head self.now).at }
     {
@@ -279,6 +281,14 @@ impl<'a> Reader<'a> {
             Some(Symbol::Unsigned) => self.with_int(Symbol::Unsigned, Ty::Unsigned),
             _ => Err(self.refuse()),
         }
+    }
+
+    /// How an expression goes on with the next token.
+    #[tactic(auto, unfolding(crate::specs::Going::next))]
+    pub fn next(&self) -> Next
+        ensures { result ≡ reading.next self.now }
+    {
+        next_of(self.peek())
     }
 
     /// Whether a further phrase comes, in a list of phrases with commas.

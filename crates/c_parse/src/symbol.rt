@@ -3,6 +3,7 @@
 ghost use Rattle.std.specs.Prelude.{◌≡◌, ℕ, List};
 ghost use Rattle.c_tree.specs.SpelledExpressions as grammar;
 ghost use Rattle.c_tree.specs.Symbols as spec;
+ghost use Rattle.c_parse.specs.Going as reading;
 
 use c_tree::{BinOp, Kind, Symbol, Ty, UnOp};
 
@@ -118,6 +119,37 @@ pub fn bound_of(kind: Kind) -> u64
     match kind {
         Kind::Bound(number) => number,
         _ => 0,
+    }
+}
+
+/// How what stands before a token goes on with it: not at all, as the condition of a `?`, or as the left operand of a
+/// binary operator.
+#[derive(Clone, Copy, Debug, PartialEq, Eq)]
+pub enum Next {
+    Stop,
+    Ask,
+    By(BinOp),
+}
+
+/// How an expression goes on with the symbol.
+pub fn next_of(symbol: Option<Symbol>) -> Next
+    ensures { result ≡ reading.next_of symbol }
+{
+    match symbol {
+        Some(Symbol::Question) => Next::Ask,
+        Some(Symbol::Operator(operator)) => Next::By(operator),
+        _ => Next::Stop,
+    }
+}
+
+/// Whether an expression of the level `least` goes on so.
+pub fn binds(least: u8, next: Next) -> bool
+    ensures { result ≡ reading.binds least next }
+{
+    match next {
+        Next::Stop => false,
+        Next::Ask => least == 0,
+        Next::By(operator) => least <= level(operator),
     }
 }
 
