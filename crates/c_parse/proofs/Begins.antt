@@ -74,10 +74,6 @@ expr_no_type {ts = ts} d = no_type (first ts) (expr_begins d)
 
 -- ---- a name before a `(`
 
--- the tokens after the first are these, and begin with `(`
-abbrev Left : List Lexeme → List Lexeme → Type 0
-Left ts rest = rest ≡ tail ts
-
 second_is : (m : Symbol) (t : Lexeme) (ts : List Lexeme) → sees_second m (t ∷ ts) ≡ true → sees m ts ≡ true
 unfolding sees sees_second
 second_is m t ts h = h
@@ -86,23 +82,20 @@ tail_sees : (m : Symbol) (ts : List Lexeme) → sees_second m ts ≡ true → se
 unfolding sees sees_second
 tail_sees m ts h = h
 
--- a token after it that is no `(` cannot be
-other : {X : Type 0} (f : Symbol) (t : Lexeme) (ts u : List Lexeme) → sees_second s.LeftParen ts ≡ true → t ∷ u ≡ tail ts → t.symbol ≡ f → (sees s.LeftParen (t ∷ u) ≡ false) → X
-other f t ts u open same is no = let yes : sees s.LeftParen (t ∷ u) ≡ true = ap (sees s.LeftParen) same ∙ tail_sees s.LeftParen ts open in absurd_of (sym no ∙ yes)
-  where
-    absurd_of : {X : Type 0} → false ≡ true → X
-    absurd_of h = cc
+-- a token that comes after the name is that `(`
+other : {X : Type 0} (t : Lexeme) (ts u : List Lexeme) → sees_second s.LeftParen ts ≡ true → t ∷ u ≡ tail ts → sees s.LeftParen (t ∷ u) ≡ false → X
+other t ts u p same differs = let yes : sees s.LeftParen (t ∷ u) ≡ true = ap (sees s.LeftParen) same ∙ tail_sees s.LeftParen ts p in let never : false ≡ true = sym differs ∙ yes in cc
 
 -- an expression that begins with a name and a `(` leaves all from the `(` on
 pub name_alone : {n : ℕ} {ts rest : List Lexeme} {a : RawExpr} → Expression n ts a rest → sees s.Name ts ≡ true → sees_second s.LeftParen ts ≡ true → rest ≡ tail ts
 name_alone (tighter d) x p = name_alone d x p
-name_alone (conditional {q = q} {ts = ts} {u = u} d i e c f) x p = other s.Question q ts u p (name_alone d x p) i (sees-no s.LeftParen s.Question q u i refl)
-name_alone (binary {o = o} {t = t} {ts = ts} {u = u} d i e) x p = other (s.Operator o) t ts u p (name_alone d x p) i (sees-no s.LeftParen (s.Operator o) t u i refl)
+name_alone (conditional {q = q} {ts = ts} {u = u} d i e c f) x p = other q ts u p (name_alone d x p) (sees-no s.LeftParen s.Question q u i refl)
+name_alone (binary {o = o} {t = t} {ts = ts} {u = u} d i e) x p = other t ts u p (name_alone d x p) (sees-no s.LeftParen (s.Operator o) t u i refl)
 name_alone (unary {o = o} {t = t} {ts = ts} i d) x p = let is = sees-is s.Name t ts x in let h : unary_operator s.Name ≡ Some o = ap unary_operator (sym is) ∙ i in cc
 name_alone (cast {t = t} {ts = ts} h y k d) x p = let is = sym (sees-is s.Name t ts x) ∙ h in cc
 name_alone (number {t = t} {rest = rest} h) x p = let is = sym (sees-is s.Name t rest x) ∙ h in cc
 name_alone (name h) x p = refl
-name_alone (element {x = y} {b = b} {ts = ts} h i d k) x p = let no = sees-no s.LeftParen s.LeftBracket b ts i refl in let yes = second_is s.LeftParen y (b ∷ ts) p in cc
+name_alone (element {x = y} {b = b} {ts = ts} h i d k) x p = let never = sees-no s.LeftParen s.LeftBracket b ts i refl in let yes = second_is s.LeftParen y (b ∷ ts) p in cc
 name_alone (paren {t = t} {ts = ts} h d k) x p = let is = sym (sees-is s.Name t ts x) ∙ h in cc
 
 -- so before what is no `(` none begins so

@@ -118,7 +118,7 @@ element-yes j x b c ts rest a h i inner k = operand-is (expr j) s.Name x (b ∷ 
 paren-yes : (j : ℕ) (t c : Lexeme) (ts rest : List Lexeme) (a : RawExpr) → t.symbol ≡ s.LeftParen → begins_type ts ≡ false → expr j 0 ts ≡ Ok (a, c ∷ rest) → c.symbol ≡ s.RightParen
     → operand (expr j) (t ∷ ts) ≡ Ok (e.Paren t.at a, rest)
 unfolding parenthesised opened read_paren
-paren-yes j t c ts rest a h no inner k = operand-is (expr j) s.LeftParen t ts h ∙ rw (expect-yes s.LeftParen t ts h, no, inner, expect-yes s.RightParen c rest k) refl
+paren-yes j t c ts rest a h untyped inner k = operand-is (expr j) s.LeftParen t ts h ∙ rw (expect-yes s.LeftParen t ts h, untyped, inner, expect-yes s.RightParen c rest k) refl
 
 cast-yes : (j : ℕ) (t c : Lexeme) (ts u rest : List Lexeme) (to : Ty) (a : RawExpr) → t.symbol ≡ s.LeftParen → TypeName ts to (c ∷ u) → c.symbol ≡ s.RightParen → expr j 11 u ≡ Ok (a, rest)
     → operand (expr j) (t ∷ ts) ≡ Ok (e.Cast t.at to a, rest)
