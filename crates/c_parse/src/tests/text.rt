@@ -7,12 +7,14 @@ use crate::{ParseFault, parse};
 use c_tree::{Kind, Token, Unit};
 use std::alloc::{AllocError, Global};
 
-const KEYWORDS: [&str; 8] = [
-    "int", "void", "if", "else", "return", "unsigned", "const", "static",
+const KEYWORDS: [&str; 16] = [
+    "int", "unsigned", "signed", "void", "if", "else", "return", "while", "for", "do", "break",
+    "continue", "const", "static", "extern", "sizeof",
 ];
 
-fn number(spelling: &[u8]) -> Kind {
-    let mut unsigned = false;
+/// The number that the digits write, and whether anything but digits stands there.
+fn number(spelling: &[u8]) -> (u32, bool) {
+    let mut other = false;
     let mut value = 0u32;
     for byte in spelling {
         if byte.is_ascii_digit() {
@@ -20,21 +22,29 @@ fn number(spelling: &[u8]) -> Kind {
                 .wrapping_mul(10)
                 .wrapping_add(u32::from(byte.wrapping_sub(b'0')));
         } else {
-            unsigned = true;
+            other = true;
         }
     }
-    Kind::Number { unsigned, value }
+    (value, other)
 }
 
+/// The kind of a piece of a text: `7` and `7u` are numbers, and `#7` is a loop bound.
 fn kind(spelling: &[u8]) -> Kind {
     match spelling {
-        [first, ..] if first.is_ascii_digit() => number(spelling),
+        [first, ..] if first.is_ascii_digit() => {
+            let (value, unsigned) = number(spelling);
+            Kind::Number { unsigned, value }
+        }
         [first, ..] if first.is_ascii_alphabetic() => {
             if KEYWORDS.iter().any(|word| word.as_bytes() == spelling) {
                 Kind::Word
             } else {
                 Kind::Name
             }
+        }
+        [b'#', ..] => {
+            let (value, _) = number(spelling);
+            Kind::Bound(u64::from(value))
         }
         _ => Kind::Mark,
     }
