@@ -4,7 +4,6 @@ pub mod Parser
 pub mod Reads
 pub mod Going
 pub mod ReadExpr
-pub mod Statements
 pub mod ReadStmt
 pub mod ReadUnit
-pub mod Spelling
+pub mod Answers

@@ -307,3 +307,17 @@ impl<'a> Reader<'a> {
         self.sees(Symbol::Comma) && !self.sees_second(Symbol::RightBrace)
     }
 }
+
+impl<'a> Reader<'a> {
+    /// The reader past the next two tokens.
+    #[tactic(auto, using(crate::proofs::StmtTurns::next_symbol))]
+    pub fn past_two(&self) -> Reader<'a>
+        requires { 1 < length self.now }
+        ensures { result ≡ spec.tail (spec.tail self.now) }
+    {
+        let mut ahead = Reader::new(self.alloc, self.text, self.rest);
+        ahead.take();
+        ahead.take();
+        ahead
+    }
+}
