@@ -3,4 +3,7 @@
 mod expressions;
 mod nested;
 mod shown_expr;
+mod shown_unit;
+mod statements;
 mod text;
+mod units;

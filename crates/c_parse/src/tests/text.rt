@@ -1,4 +1,4 @@
-//! Tokens of test texts, which have a blank between any two tokens.
+//! Tokens of test texts, which have a blank between two operators that follow one another.
 
 ghost use Rattle.std.specs.Prelude.{◌<◌, ◌≤◌, ◌^◌, length, All, IfOk, OnOk};
 ghost use Rattle.c_parse.specs.Lexeme.{IsWithin};
@@ -70,6 +70,19 @@ fn push(tokens: &mut Vec<Token>, text: &[u8], from: usize, to: usize) -> Result<
     Ok(())
 }
 
+/// A mark that is a token wherever it stands.
+fn is_mark(byte: u8) -> bool {
+    matches!(
+        byte,
+        b'(' | b')' | b'[' | b']' | b'{' | b'}' | b',' | b';'
+    )
+}
+
+/// A byte of an operator; those that follow one another are one token.
+fn is_sign(byte: u8) -> bool {
+    byte.is_ascii_punctuation() && !is_mark(byte) && byte != b'_' && byte != b'#'
+}
+
 fn tokens_of(alloc: Global, text: &[u8]) -> Result<Vec<Token>, AllocError>
     requires { length text.now < 2 ^ 32 }
     ensures { IfOk result (λ tokens. All (IsWithin text.now) tokens.items) }
@@ -77,9 +90,19 @@ fn tokens_of(alloc: Global, text: &[u8]) -> Result<Vec<Token>, AllocError>
     let mut tokens = Vec::new(alloc);
     let mut from = 0usize;
     for at in 0..text.len() {
-        if text[at] == b' ' {
+        if is_mark(text[at]) {
+            push(&mut tokens, text, from, at)?;
+            push(&mut tokens, text, at, at + 1)?;
+            from = at + 1;
+        } else if text[at] == b' ' {
             push(&mut tokens, text, from, at)?;
             from = at + 1;
+        } else if !is_sign(text[at]) && is_sign(text[from]) {
+            push(&mut tokens, text, from, at)?;
+            from = at;
+        } else if is_sign(text[at]) && !is_sign(text[from]) {
+            push(&mut tokens, text, from, at)?;
+            from = at;
         }
     }
     push(&mut tokens, text, from, text.len())?;
