@@ -1,25 +1,34 @@
 -- What may follow an expression.
-use Rattle.std.proofs.Common.{◌≡◌, ℕ, suc, ◌<◌, ◌≤◌, List, ◌∷◌, Option, Some, None, refl, arith}
+use Rattle.std.proofs.Common.{◌≡◌, ℕ, suc, ◌<◌, ◌≤◌, false, List, ◌∷◌, Some, refl, ap, arith}
+use Rattle.std.proofs.lemmas.Bool.{lt-leb, leb-false}
+use Rattle.std.proofs.lemmas.Bool.Decides.{nat_tests}
+use Rattle.c_tree.specs.declared.symbol.Symbol.{Symbol}
+use Rattle.c_tree.specs.declared.symbol.Symbol.TheVariants as s
 use Rattle.c_tree.specs.declared.tree.BinOp.{BinOp}
 use Rattle.c_tree.specs.declared.tree.BinOp.TheVariants as op
-use Rattle.c_parse.specs.declared.symbol.Symbol.{Symbol}
-use Rattle.c_parse.specs.Expressions.{operator, level}
-use Rattle.c_parse.specs.Lexeme.{Lexeme}
-use Rattle.c_parse.specs.ReadExpr.{next}
+use Rattle.c_tree.specs.SpelledExpressions.{level}
+use Rattle.c_tree.specs.Symbols.{Lexeme}
+use Rattle.c_parse.specs.declared.symbol.Next.{Next}
+use Rattle.c_parse.specs.declared.symbol.Next.TheVariants.{Stop, Ask, By}
+use Rattle.c_parse.specs.Going.{next_of, next, binds}
+use Rattle.c_parse.specs.Parser.{sees}
+use Rattle.c_parse.specs.Same.{same}
+use Rattle.c_parse.proofs.Steps.{sees-no}
 
--- how tightly the next token binds what stands before it
-abbrev pub strength : Option BinOp → ℕ
-strength None = 0
-strength (Some o) = level o
+-- how tightly the next token binds what stands before it: a `?` more than nothing, and no more than any operator
+abbrev pub strength : Next → ℕ
+strength Stop = 0
+strength Ask = 1
+strength (By o) = level o
 
--- no rule of a level above n goes on with the token that follows
+-- no rule of a level above n goes on with the token that follows, and it is no `[`, with which a name would go on
 pub record Ends (n : ℕ) (rest : List Lexeme) : Type 0 where
   pub loose : strength (next rest) ≤ n
+  pub apart : sees s.LeftBracket rest ≡ false
 
 -- an expression of level n or above does not go on
-abbrev pub Quiet : ℕ → Option BinOp → Type 0
-Quiet n None = n ≡ n
-Quiet n (Some o) = level o < n
+abbrev pub Quiet : ℕ → Next → Type 0
+Quiet n x = binds n x ≡ false
 
 -- every binary operator stands between `?:` and the unary ones
 pub level-pos : (o : BinOp) → 0 < level o
@@ -62,34 +71,66 @@ level-below op.Or = omega arith
 level-below op.Both = omega arith
 level-below op.Either = omega arith
 
-pub strength-below : (x : Option BinOp) → strength x ≤ 11
-strength-below None = omega arith
-strength-below (Some o) = omega (arith, level-below o)
+pub strength-below : (x : Next) → strength x ≤ 11
+strength-below Stop = omega arith
+strength-below Ask = omega arith
+strength-below (By o) = omega (arith, level-below o)
 
-pub quiet_from : (n m : ℕ) (x : Option BinOp) → strength x ≤ n → n < m → Quiet m x
-quiet_from n m None h l = refl
-quiet_from n m (Some o) h l = omega arith
+quiet_ask : (m : ℕ) → 0 < m → Quiet m Ask
+quiet_ask m h = grind (arith, nat_tests)
+
+pub quiet_from : (n m : ℕ) (x : Next) → strength x ≤ n → n < m → Quiet m x
+quiet_from n m Stop h l = refl
+quiet_from n m Ask h l = quiet_ask m (omega arith)
+quiet_from n m (By o) h l = lt-leb m (level o) (omega arith)
 
 -- where nothing binds, every level is quiet
-pub quiet_at : (m : ℕ) (x : Option BinOp) → strength x ≤ 0 → Quiet m x
-quiet_at m None h = refl
-quiet_at m (Some o) h = absurd (omega (arith, level-pos o))
+pub quiet_at : (m : ℕ) (x : Next) → strength x ≤ 0 → Quiet m x
+quiet_at m Stop h = refl
+quiet_at m Ask h = absurd (omega arith)
+quiet_at m (By o) h = absurd (omega (arith, level-pos o))
+
+-- the operand of a unary operator does not go on
+pub quiet_unary : (x : Next) → Quiet 11 x
+quiet_unary Stop = refl
+quiet_unary Ask = quiet_ask 11 (omega arith)
+quiet_unary (By o) = lt-leb 11 (level o) (level-below o)
 
 -- what is quiet above an operator's level binds no tighter than the operator
-pub quiet-strength : (o : BinOp) (x : Option BinOp) → Quiet (suc (level o)) x → strength x ≤ level o
-quiet-strength o None h = omega arith
-quiet-strength o (Some p) h = omega arith
+pub quiet-strength : (o : BinOp) (x : Next) → Quiet (suc (level o)) x → strength x ≤ level o
+quiet-strength o Stop h = omega arith
+quiet-strength o Ask h = omega (arith, level-pos o)
+quiet-strength o (By p) h = omega (arith, leb-false (suc (level o)) (level p) h)
 
-pub next-by : (o : BinOp) (t : Lexeme) (ts : List Lexeme) → operator t.symbol ≡ Some o → next (t ∷ ts) ≡ Some o
+pub next-by : (o : BinOp) (t : Lexeme) (ts : List Lexeme) → t.symbol ≡ s.Operator o → next (t ∷ ts) ≡ By o
 unfolding next
-next-by o t ts h = h
+next-by o t ts h = ap (λ (x : Symbol). next_of (Some x)) h
 
-pub ends-symbol : (n : ℕ) (f : Symbol) (t : Lexeme) (ts : List Lexeme) → t.symbol ≡ f → strength (operator f) ≤ n → Ends n (t ∷ ts)
+pub next-ask : (t : Lexeme) (ts : List Lexeme) → t.symbol ≡ s.Question → next (t ∷ ts) ≡ Ask
 unfolding next
-ends-symbol n f t ts h l = record { loose = rw h l }
+next-ask t ts h = ap (λ (x : Symbol). next_of (Some x)) h
 
-pub ends-by : (o : BinOp) (t : Lexeme) (ts : List Lexeme) → operator t.symbol ≡ Some o → Ends (level o) (t ∷ ts)
-ends-by o t ts h = record { loose = rw (next-by o t ts h) (omega arith) }
+next-is : (f : Symbol) (t : Lexeme) (ts : List Lexeme) → t.symbol ≡ f → next (t ∷ ts) ≡ next_of (Some f)
+unfolding next
+next-is f t ts h = ap (λ (x : Symbol). next_of (Some x)) h
+
+pub ends-symbol : (n : ℕ) (f : Symbol) (t : Lexeme) (ts : List Lexeme) → t.symbol ≡ f → strength (next_of (Some f)) ≤ n → same f s.LeftBracket ≡ false → Ends n (t ∷ ts)
+ends-symbol n f t ts h l differs = record { loose = rw (next-is f t ts h) l; apart = sees-no s.LeftBracket f t ts h differs }
+
+pub ends-by : (o : BinOp) (t : Lexeme) (ts : List Lexeme) → t.symbol ≡ s.Operator o → Ends (level o) (t ∷ ts)
+ends-by o t ts h = ends-symbol (level o) (s.Operator o) t ts h (omega arith) refl
 
 pub ends-up : {n : ℕ} {ts : List Lexeme} → Ends n ts → Ends (suc n) ts
-ends-up x = record { loose = omega arith }
+ends-up x = record { loose = omega arith; apart = x.apart }
+
+-- ---- the other way round: a token with which an expression goes on
+
+pub next_of-ask : (x : Symbol) → next_of (Some x) ≡ Ask → x ≡ s.Question
+next_of-ask s.Question h = refl
+next_of-ask (s.Operator p) h = cc
+next_of-ask _ h = cc
+
+pub next_of-by : (o : BinOp) (x : Symbol) → next_of (Some x) ≡ By o → x ≡ s.Operator o
+next_of-by o s.Question h = cc
+next_of-by o (s.Operator p) h = cc
+next_of-by o _ h = cc

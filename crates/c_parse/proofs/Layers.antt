@@ -1,19 +1,20 @@
 -- The height, one layer at a time.
 use Rattle.std.proofs.Common.{◌≡◌, ℕ, suc, max, ◌<◌, List, [], ◌∷◌, ◌++◌, Option, Bool, refl, ap, arith}
 use Rattle.c_tree.specs.declared.tree.Ty.{Ty}
+use Rattle.c_tree.specs.declared.tree.UnOp.{UnOp}
 use Rattle.c_tree.specs.declared.tree.BinOp.{BinOp}
 use Rattle.c_tree.specs.declared.unit.Spot.{Spot}
 use Rattle.c_tree.specs.declared.unit.RawPlace.{RawPlace}
 use Rattle.c_tree.specs.declared.unit.RawShape.{RawShape}
 use Rattle.c_tree.specs.declared.unit.RawExpr.{RawExpr}
-use Rattle.c_tree.specs.declared.unit.RawExpr.TheVariants.{Num, Name, Bin, Paren, Elem', Un', Cast', Bin', Cond', Paren'}
+use Rattle.c_tree.specs.declared.unit.RawExpr.TheVariants.{Num, Name, Elem, Un, Cast, Bin, Cond, Paren, Elem', Un', Cast', Bin', Cond', Paren'}
 use Rattle.c_tree.specs.declared.unit.RawExpr.TheBlock as in_expr
 use Rattle.c_tree.specs.declared.unit.RawStmt.{RawStmt}
 use Rattle.c_tree.specs.declared.unit.RawStmt.TheVariants as stmt
 use Rattle.c_tree.specs.declared.unit.RawStmt.TheVariants.{Empty, Declare, Assign, Call, Break, Continue, Return, If', While', Do', For', Group'}
 use Rattle.c_tree.specs.declared.unit.RawStmt.TheBlock as in_stmt
 use denote.Hole.Carrier.{hidden}
-use Rattle.c_parse.specs.Height.{height, row_height, option_height, shape_height, place_height, stmt_height, stmts_height, body_height}
+use Rattle.c_tree.specs.Heights.{height, row_height, option_height, shape_height, place_height, stmt_height, stmts_height, body_height}
 
 pub height-Num : (at : ℕ) (to : Ty) (n : ℕ) → height (Num at to n) ≡ 1
 unfolding height
@@ -26,6 +27,22 @@ height-Name x = refl
 pub height-Bin : (o : BinOp) (a b : RawExpr) → height (Bin o a b) ≡ suc (max (height a) (height b))
 unfolding height row_height in_expr.shape-the_row-RawExpr-0 in_expr.hidden-the_row-RawExpr-0 hidden
 height-Bin o a b = refl
+
+pub height-Elem : (x : Spot) (i : RawExpr) → height (Elem x i) ≡ suc (height i)
+unfolding height row_height in_expr.shape-the_row-RawExpr-0 in_expr.hidden-the_row-RawExpr-0 hidden
+height-Elem x i = refl
+
+pub height-Un : (at : ℕ) (o : UnOp) (a : RawExpr) → height (Un at o a) ≡ suc (height a)
+unfolding height row_height in_expr.shape-the_row-RawExpr-0 in_expr.hidden-the_row-RawExpr-0 hidden
+height-Un at o a = refl
+
+pub height-Cast : (at : ℕ) (to : Ty) (a : RawExpr) → height (Cast at to a) ≡ suc (height a)
+unfolding height row_height in_expr.shape-the_row-RawExpr-0 in_expr.hidden-the_row-RawExpr-0 hidden
+height-Cast at to a = refl
+
+pub height-Cond : (a b c : RawExpr) → height (Cond a b c) ≡ suc (max (height a) (max (height b) (height c)))
+unfolding height row_height in_expr.shape-the_row-RawExpr-0 in_expr.hidden-the_row-RawExpr-0 hidden
+height-Cond a b c = refl
 
 pub height-Paren : (at : ℕ) (a : RawExpr) → height (Paren at a) ≡ suc (height a)
 unfolding height row_height in_expr.shape-the_row-RawExpr-0 in_expr.hidden-the_row-RawExpr-0 hidden
@@ -43,7 +60,7 @@ height-pos (Bin' o a x b y) = omega arith
 height-pos (Cond' a x b y c z) = omega arith
 height-pos (Paren' at a x) = omega arith
 
-pub ruleset height_layers = (height-Num, height-Name, height-Bin, height-Paren)
+pub ruleset height_layers = (height-Num, height-Name, height-Elem, height-Un, height-Cast, height-Bin, height-Cond, height-Paren)
 
 pub ruleset some_height = (height-pos)
 

@@ -1,133 +1,167 @@
--- What is read takes tokens, and how it begins.
-use Rattle.std.proofs.Common.{◌≡◌, ℕ, ◌<◌, ◌≤◌, Bool, true, false, List, length, Option, Some, Ok, refl, ap, arith}
-use denote.Enum.Bare.{sameb}
+-- Statements take tokens, and how they begin.
+use Rattle.std.proofs.Common.{◌≡◌, ℕ, ◌<◌, ◌≤◌, Bool, true, false, List, ◌∷◌, length, Option, Some, refl, arith}
 use Rattle.c_tree.specs.declared.tree.Ty.{Ty}
+use Rattle.c_tree.specs.declared.unit.Spot.{Spot}
+use Rattle.c_tree.specs.declared.unit.RawBound.{RawBound}
 use Rattle.c_tree.specs.declared.unit.RawExpr.{RawExpr}
+use Rattle.c_tree.specs.declared.unit.RawPlace.{RawPlace}
 use Rattle.c_tree.specs.declared.unit.RawStmt.{RawStmt}
-use Rattle.c_parse.specs.contracts.symbol.Symbol.{the_type}
-use Rattle.c_parse.specs.declared.symbol.Symbol.{Symbol}
-use Rattle.c_parse.specs.declared.symbol.Symbol.TheVariants as s
-use Rattle.c_parse.specs.Expressions.{TypeName, int, Expr, tighter, binary, number, name, paren}
-use Rattle.c_parse.specs.Lexeme.{Lexeme}
-use Rattle.c_parse.specs.Parser.{first, sees, begins_type, type_name}
-use Rattle.c_parse.specs.Statements.{Declarator, bare, initialised, Sort, Plain, Item, Statement, empty, assign, return_nothing, return_value, if_alone, if_else, compound, body, group, declare, item, Statements, none, more}
-use Rattle.c_parse.proofs.Steps.{split_at, sees-yes, sees-no, expect-yes}
+use Rattle.c_tree.specs.declared.unit.RawStmt.TheVariants as stmt
+use Rattle.c_tree.specs.declared.symbol.Symbol.{Symbol}
+use Rattle.c_tree.specs.declared.symbol.Symbol.TheVariants as s
+use Rattle.c_tree.specs.SpelledExpressions.{Separated, TypeName, int, signed, signed_int, unsigned, unsigned_int, Expression}
+use Rattle.c_tree.specs.SpelledStatements.{Optional, absent, present, Assigned, scalar_place, element_place, Assignment, plain_assignment, compound_assignment, step_after, step_before, Called, without_arguments, with_arguments, LoopBound, unbounded, bounded, Initialiser, no_initialiser, assigning, declaring, Condition, no_condition, condition, Step, no_step, step, Sort, Plain, Item, Statement, empty, assign, call, call_into, break, continue, return_nothing, return_value, if_alone, if_else, while_loop, do_loop, for_loop, compound, body, group, declare, declare_call, item, Statements, none, more}
+use Rattle.c_tree.specs.Symbols.{Lexeme}
+use Rattle.c_parse.specs.Parser.{first, sees, begins_type}
+use Rattle.c_parse.specs.ReadStmt.{begins_declaration}
+use Rattle.c_parse.proofs.AssignComplete.{assignment_shorter}
+use Rattle.c_parse.proofs.CallComplete.{optional_shorter, called_shorter, declarator_shorter}
+use Rattle.c_parse.proofs.Begins.{expr_shorter}
+use Rattle.c_parse.proofs.Lists.{separated_shorter}
+use Rattle.c_parse.proofs.Steps.{not_seen}
+use Rattle.c_parse.proofs.Types.{type_shorter}
 
-pub type_shorter : {ts rest : List Lexeme} {to : Ty} → TypeName ts to rest → length rest < length ts
-type_shorter (int h) = omega arith
+bound_shorter : {ts rest : List Lexeme} {b : Option RawBound} → LoopBound ts b rest → length rest ≤ length ts
+bound_shorter unbounded = omega arith
+bound_shorter (bounded h) = omega arith
 
-expr_shorter : {n : ℕ} {ts rest : List Lexeme} {a : RawExpr} → Expr n ts a rest → length rest < length ts
-expr_shorter (tighter d) = expr_shorter d
-expr_shorter (binary d i e) = omega (arith, expr_shorter d, expr_shorter e)
-expr_shorter (number i) = omega arith
-expr_shorter (name i) = omega arith
-expr_shorter (paren i d k) = omega (arith, expr_shorter d)
+initialiser_shorter : {ts rest : List Lexeme} {i : Option RawStmt} → Initialiser ts i rest → length rest ≤ length ts
+initialiser_shorter no_initialiser = omega arith
+initialiser_shorter (assigning d) = omega (arith, assignment_shorter d)
+initialiser_shorter (declaring y h i d) = omega (arith, type_shorter y, expr_shorter d)
 
-declarator_shorter : {to : Ty} {ts rest : List Lexeme} {a : RawStmt} → Declarator to ts a rest → length rest < length ts
-declarator_shorter (bare h) = omega arith
-declarator_shorter (initialised h i d) = omega (arith, expr_shorter d)
+condition_shorter : {ts rest : List Lexeme} {a : RawExpr} → Condition ts a rest → length rest ≤ length ts
+condition_shorter (no_condition h) = omega arith
+condition_shorter (condition d) = omega (arith, expr_shorter d)
+
+step_shorter : {ts rest : List Lexeme} {j : Option RawStmt} → Step ts j rest → length rest ≤ length ts
+step_shorter no_step = omega arith
+step_shorter (step d) = omega (arith, assignment_shorter d)
 
 mutual
   pub statement_shorter : {o : Sort} {b : Bool} {ts rest : List Lexeme} {xs : List RawStmt} → Statement o b ts xs rest → length rest < length ts
   statement_shorter (empty h) = omega arith
-  statement_shorter (assign h i d k) = omega (arith, expr_shorter d)
+  statement_shorter (assign d k) = omega (arith, assignment_shorter d)
+  statement_shorter (call d k) = omega (arith, called_shorter d)
+  statement_shorter (call_into h i d k) = omega (arith, called_shorter d)
+  statement_shorter (break h k) = omega arith
+  statement_shorter (continue h k) = omega arith
   statement_shorter (return_nothing h i) = omega arith
   statement_shorter (return_value h d k) = omega (arith, expr_shorter d)
   statement_shorter (if_alone h i d k x) = omega (arith, expr_shorter d, statement_shorter x)
   statement_shorter (if_else h i d k x l y) = omega (arith, expr_shorter d, statement_shorter x, statement_shorter y)
+  statement_shorter (while_loop b h i d k x) = omega (arith, bound_shorter b, expr_shorter d, statement_shorter x)
+  statement_shorter (do_loop b h x i j d k l) = omega (arith, bound_shorter b, statement_shorter x, expr_shorter d)
+  statement_shorter (for_loop b h p i c d k j r x) = omega (arith, bound_shorter b, initialiser_shorter i, condition_shorter d, step_shorter j, statement_shorter x)
   statement_shorter (compound h x k) = omega (arith, statements_shorter x)
   statement_shorter (body x) = statement_shorter x
   statement_shorter (group h x k) = omega (arith, statements_shorter x)
-  statement_shorter (declare y d k) = omega (arith, type_shorter y, declarator_shorter d)
+  statement_shorter (declare {constant = constant} {to = to} o y m k) =
+      omega (arith, optional_shorter o, type_shorter y, separated_shorter (declarator_shorter (stmt.Declare constant to)) m)
+  statement_shorter (declare_call o y h i d k) = omega (arith, optional_shorter o, type_shorter y, called_shorter d)
   statement_shorter (item x) = statement_shorter x
 
-  statements_shorter : {ts rest : List Lexeme} {xs : List RawStmt} → Statements ts xs rest → length rest ≤ length ts
+  pub statements_shorter : {ts rest : List Lexeme} {xs : List RawStmt} → Statements ts xs rest → length rest ≤ length ts
   statements_shorter none = omega arith
   statements_shorter (more x y) = omega (arith, statement_shorter x, statements_shorter y)
 
 -- ---- how it begins
 
--- a symbol that p tells no beginning of
-not_seen : (p : Option Symbol → Bool) (m : Symbol) (ts : List Lexeme) → p (Some m) ≡ false → p (first ts) ≡ true → sees m ts ≡ false
-not_seen p m ts never begins = split_at m (λ u. p (first u) ≡ true → sees m u ≡ false) ts
-    (λ t u is yes. let same : p (Some t.symbol) ≡ p (Some m) = ap (λ (x : Symbol). p (Some x)) is in cc)
-    (λ unseen yes. unseen)
-    begins
-
-abbrev begins_expr : Option Symbol → Bool
-begins_expr (Some s.Number) = true
-begins_expr (Some s.Name) = true
-begins_expr (Some s.LeftParen) = true
-begins_expr _ = false
-
-expr_begins : {n : ℕ} {ts rest : List Lexeme} {a : RawExpr} → Expr n ts a rest → begins_expr (first ts) ≡ true
-expr_begins (tighter d) = expr_begins d
-expr_begins (binary d i e) = expr_begins d
-expr_begins (number h) = rw h refl
-expr_begins (name h) = rw h refl
-expr_begins (paren h d k) = rw h refl
-
-pub expr_no_semicolon : {n : ℕ} {ts rest : List Lexeme} {a : RawExpr} → Expr n ts a rest → sees s.Semicolon ts ≡ false
-expr_no_semicolon {ts = ts} d = not_seen begins_expr s.Semicolon ts refl (expr_begins d)
-
-abbrev begins_plain : Option Symbol → Bool
+abbrev pub begins_plain : Option Symbol → Bool
 begins_plain (Some s.Semicolon) = true
 begins_plain (Some s.Name) = true
+begins_plain (Some (s.Step o)) = true
+begins_plain (Some s.Break) = true
+begins_plain (Some s.Continue) = true
 begins_plain (Some s.Return) = true
 begins_plain (Some s.If) = true
+begins_plain (Some s.Bound) = true
+begins_plain (Some s.While) = true
+begins_plain (Some s.Do) = true
+begins_plain (Some s.For) = true
 begins_plain _ = false
 
-plain_begins : {b : Bool} {ts rest : List Lexeme} {xs : List RawStmt} → Statement Plain b ts xs rest → begins_plain (first ts) ≡ true
+assigned_starts : {ts rest : List Lexeme} {p : RawPlace} → Assigned ts p rest → begins_plain (first ts) ≡ true
+assigned_starts (scalar_place h) = rw h refl
+assigned_starts (element_place h i d k) = rw h refl
+
+assignment_starts : {ts rest : List Lexeme} {x : RawStmt} → Assignment ts x rest → begins_plain (first ts) ≡ true
+assignment_starts (plain_assignment p i d) = assigned_starts p
+assignment_starts (compound_assignment p i d) = assigned_starts p
+assignment_starts (step_after p i) = assigned_starts p
+assignment_starts (step_before i p) = rw i refl
+
+called_starts : {ts rest : List Lexeme} {f : Spot} {list : List RawExpr} → Called ts f list rest → begins_plain (first ts) ≡ true
+called_starts (without_arguments h i k) = rw h refl
+called_starts (with_arguments h i m k) = rw h refl
+
+loop_starts : (m : Symbol) → begins_plain (Some m) ≡ true → {t : Lexeme} {ts u : List Lexeme} {b : Option RawBound} → LoopBound ts b (t ∷ u) → t.symbol ≡ m → begins_plain (first ts) ≡ true
+loop_starts m starts unbounded h = rw h starts
+loop_starts m starts (bounded i) h = rw i refl
+
+pub plain_begins : {b : Bool} {ts rest : List Lexeme} {xs : List RawStmt} → Statement Plain b ts xs rest → begins_plain (first ts) ≡ true
 plain_begins (empty h) = rw h refl
-plain_begins (assign h i d k) = rw h refl
+plain_begins (assign d k) = assignment_starts d
+plain_begins (call d k) = called_starts d
+plain_begins (call_into h i d k) = rw h refl
+plain_begins (break h k) = rw h refl
+plain_begins (continue h k) = rw h refl
 plain_begins (return_nothing h i) = rw h refl
 plain_begins (return_value h d k) = rw h refl
 plain_begins (if_alone h i d k x) = rw h refl
 plain_begins (if_else h i d k x l y) = rw h refl
+plain_begins (while_loop b h i d k x) = loop_starts s.While refl b h
+plain_begins (do_loop b h x i j d k l) = loop_starts s.Do refl b h
+plain_begins (for_loop b h p i c d k j r x) = loop_starts s.For refl b h
 
-pub plain_no_brace : {b : Bool} {ts rest : List Lexeme} {xs : List RawStmt} → Statement Plain b ts xs rest → sees s.LeftBrace ts ≡ false
-plain_no_brace {ts = ts} x = not_seen begins_plain s.LeftBrace ts refl (plain_begins x)
+pub plain_no : (m : Symbol) → begins_plain (Some m) ≡ false → {b : Bool} {ts rest : List Lexeme} {xs : List RawStmt} → Statement Plain b ts xs rest → sees m ts ≡ false
+plain_no m never {ts = ts} x = not_seen begins_plain m ts never (plain_begins x)
 
-pub plain_no_type : {b : Bool} {ts rest : List Lexeme} {xs : List RawStmt} → Statement Plain b ts xs rest → begins_type ts ≡ false
+no_type : (x : Option Symbol) (ts : List Lexeme) → first ts ≡ x → begins_plain x ≡ true → begins_type ts ≡ false
 unfolding begins_type
-plain_no_type {ts = ts} x = not_seen begins_plain s.Int ts refl (plain_begins x)
+no_type (Some s.Int) ts is h = cc
+no_type (Some s.Signed) ts is h = cc
+no_type (Some s.Unsigned) ts is h = cc
+no_type _ ts is h = rw is refl
+
+pub plain_no_declaration : {b : Bool} {ts rest : List Lexeme} {xs : List RawStmt} → Statement Plain b ts xs rest → begins_declaration ts ≡ false
+unfolding begins_declaration
+plain_no_declaration {ts = ts} x = rw (plain_no s.Const refl x) (no_type (first ts) ts refl (plain_begins x))
+
+-- ---- and a list
 
 abbrev begins_item : Option Symbol → Bool
+begins_item (Some s.Const) = true
 begins_item (Some s.Int) = true
+begins_item (Some s.Signed) = true
+begins_item (Some s.Unsigned) = true
 begins_item (Some s.LeftBrace) = true
 begins_item x = begins_plain x
 
 begins_either : (x : Option Symbol) → begins_plain x ≡ true → begins_item x ≡ true
+begins_either (Some s.Const) h = refl
 begins_either (Some s.Int) h = refl
+begins_either (Some s.Signed) h = refl
+begins_either (Some s.Unsigned) h = refl
 begins_either (Some s.LeftBrace) h = refl
 begins_either _ h = h
 
 type_starts : {ts rest : List Lexeme} {to : Ty} → TypeName ts to rest → begins_item (first ts) ≡ true
 type_starts (int h) = rw h refl
+type_starts (signed h) = rw h refl
+type_starts (signed_int h i) = rw h refl
+type_starts (unsigned h) = rw h refl
+type_starts (unsigned_int h i) = rw h refl
+
+constant_starts : {ts u rest : List Lexeme} {b : Bool} {to : Ty} → Optional s.Const ts b u → TypeName u to rest → begins_item (first ts) ≡ true
+constant_starts absent y = type_starts y
+constant_starts (present h) y = rw h refl
 
 item_begins : {b : Bool} {ts rest : List Lexeme} {xs : List RawStmt} → Statement Item b ts xs rest → begins_item (first ts) ≡ true
 item_begins (group h x k) = rw h refl
-item_begins (declare y d k) = type_starts y
+item_begins (declare o y m k) = constant_starts o y
+item_begins (declare_call o y h i d k) = constant_starts o y
 item_begins {ts = ts} (item x) = begins_either (first ts) (plain_begins x)
 
-pub item_no_end : {b : Bool} {ts rest : List Lexeme} {xs : List RawStmt} → Statement Item b ts xs rest → sees s.RightBrace ts ≡ false
-item_no_end {ts = ts} x = not_seen begins_item s.RightBrace ts refl (item_begins x)
-
--- no `else` comes between the statements of a list
-pub statements_no_else : {ts rest : List Lexeme} {xs : List RawStmt} → Statements ts xs rest → sees s.RightBrace rest ≡ true → sees s.Else ts ≡ false
-statements_no_else {rest = rest} none h = split_at s.RightBrace (λ u. sees s.RightBrace u ≡ true → sees s.Else u ≡ false) rest
-    (λ t u is yes. sees-no s.Else s.RightBrace t u is refl)
-    (λ unseen yes. cc)
-    h
-statements_no_else {ts = ts} (more x y) h = not_seen begins_item s.Else ts refl (item_begins x)
-
-pub type_begins : {ts rest : List Lexeme} {to : Ty} → TypeName ts to rest → begins_type ts ≡ true
-unfolding begins_type
-type_begins (int {t = t} {rest = rest} h) = sees-yes s.Int t rest h
-
-pub type_no : (m : Symbol) → sameb the_type s.Int m ≡ false → {ts rest : List Lexeme} {to : Ty} → TypeName ts to rest → sees m ts ≡ false
-type_no m differs (int {t = t} {rest = rest} h) = sees-no m s.Int t rest h differs
-
-pub type_yes : {ts rest : List Lexeme} {to : Ty} → TypeName ts to rest → type_name ts ≡ Ok (to, rest)
-unfolding type_name
-type_yes (int {t = t} {rest = rest} h) = rw (expect-yes s.Int t rest h) refl
+pub item_no : (m : Symbol) → begins_item (Some m) ≡ false → {b : Bool} {ts rest : List Lexeme} {xs : List RawStmt} → Statement Item b ts xs rest → sees m ts ≡ false
+item_no m never {ts = ts} x = not_seen begins_item m ts never (item_begins x)

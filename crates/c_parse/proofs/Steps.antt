@@ -1,11 +1,11 @@
 -- What a step of reading does at a token whose symbol is known, and what a token is that a step has seen.
-use Rattle.std.proofs.Common.{◌≡◌, ◌<◌, Bool, true, false, cond, List, [], ◌∷◌, length, Ok, Err, refl, rules, arith}
-use denote.Enum.Bare.{sameb, same_true, true_same}
-use Rattle.c_parse.specs.contracts.symbol.Symbol.{the_type}
+use Rattle.std.proofs.Common.{◌≡◌, ◌<◌, Bool, true, false, cond, List, [], ◌∷◌, length, Option, Some, Ok, Err, refl, ap, arith}
 use Rattle.c_parse.specs.declared.fault.Fault.TheVariants.{Syntax}
-use Rattle.c_parse.specs.declared.symbol.Symbol.{Symbol}
-use Rattle.c_parse.specs.Lexeme.{Lexeme}
-use Rattle.c_parse.specs.Parser.{Outcome, Parser, and_then, sees, token, expect}
+use Rattle.c_tree.specs.declared.symbol.Symbol.{Symbol}
+use Rattle.c_tree.specs.Symbols.{Lexeme}
+use Rattle.c_parse.specs.Same.{same}
+use Rattle.c_parse.proofs.SameSymbol.{same-yes, same-true}
+use Rattle.c_parse.specs.Parser.{Outcome, Parser, and_then, first, head, sees, token, expect, optional}
 
 pub sees-some : (m : Symbol) (ts : List Lexeme) → sees m ts ≡ true → 0 < length ts
 unfolding sees
@@ -16,15 +16,20 @@ pub ruleset seeing = (sees-some)
 
 pub sees-yes : (m : Symbol) (t : Lexeme) (ts : List Lexeme) → t.symbol ≡ m → sees m (t ∷ ts) ≡ true
 unfolding sees
-sees-yes m t ts h = true_same the_type t.symbol m h
+sees-yes m t ts h = same-yes t.symbol m h
 
-pub sees-no : (m f : Symbol) (t : Lexeme) (ts : List Lexeme) → t.symbol ≡ f → sameb the_type f m ≡ false → sees m (t ∷ ts) ≡ false
+pub sees-no : (m f : Symbol) (t : Lexeme) (ts : List Lexeme) → t.symbol ≡ f → same f m ≡ false → sees m (t ∷ ts) ≡ false
 unfolding sees
 sees-no m f t ts h differs = rw h differs
 
 pub sees-is : (m : Symbol) (t : Lexeme) (ts : List Lexeme) → sees m (t ∷ ts) ≡ true → t.symbol ≡ m
 unfolding sees
-sees-is m t ts h = same_true the_type (search rules) t.symbol m h
+sees-is m t ts h = same-true t.symbol m h
+
+pub head-is : (m : Symbol) (ts : List Lexeme) → sees m ts ≡ true → (head ts).symbol ≡ m
+unfolding sees
+head-is m [] h = cc
+head-is m (t ∷ ts) h = sees-is m t ts h
 
 pub token-yes : {A : Type 0} (m : Symbol) (view : Lexeme → A) (t : Lexeme) (ts : List Lexeme) → t.symbol ≡ m → token m view (t ∷ ts) ≡ Ok (view t, ts)
 unfolding token
@@ -82,3 +87,32 @@ taken m view Q ts go = split_at m (λ w. Sound (Q w) (token m view w)) ts
 pub choose : {X : Type 0} (Q : X → Type 0) (b : Bool) (x y : X) → (b ≡ true → Q x) → (b ≡ false → Q y) → Q (cond b x y)
 choose Q true x y f g = f refl
 choose Q false x y f g = g refl
+
+pub then_assoc : {A B C : Type 0} (r : Outcome A) (f : A → Parser B) (g : B → Parser C) → and_then (and_then r f) g ≡ and_then r (λ a u. and_then (f a u) g)
+then_assoc (Ok p) f g = refl
+then_assoc (Err x) f g = refl
+
+pub then_same : {A B : Type 0} (r : Outcome A) (f g : A → Parser B) → ((a : A) (u : List Lexeme) → f a u ≡ g a u) → and_then r f ≡ and_then r g
+then_same (Ok p) f g h = h p.0 p.1
+then_same (Err x) f g h = refl
+
+pub then-pure : {A : Type 0} (r : Outcome A) → and_then r (λ a u. Ok (a, u)) ≡ r
+then-pure (Ok p) = refl
+then-pure (Err x) = refl
+
+-- ---- a word that may be missing
+
+pub optional-yes : (m : Symbol) (t : Lexeme) (ts : List Lexeme) → t.symbol ≡ m → optional m (t ∷ ts) ≡ Ok (true, ts)
+unfolding optional
+optional-yes m t ts h = rw (sees-yes m t ts h) refl
+
+pub optional-no : (m : Symbol) (ts : List Lexeme) → sees m ts ≡ false → optional m ts ≡ Ok (false, ts)
+unfolding optional
+optional-no m ts h = rw h refl
+
+-- what a list of tokens begins with when p tells its beginning is no symbol of which p tells none
+pub not_seen : (p : Option Symbol → Bool) (m : Symbol) (ts : List Lexeme) → p (Some m) ≡ false → p (first ts) ≡ true → sees m ts ≡ false
+not_seen p m ts never begins = split_at m (λ u. p (first u) ≡ true → sees m u ≡ false) ts
+    (λ t u is yes. let same : p (Some t.symbol) ≡ p (Some m) = ap (λ (x : Symbol). p (Some x)) is in cc)
+    (λ unseen yes. unseen)
+    begins

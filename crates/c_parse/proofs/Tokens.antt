@@ -1,7 +1,7 @@
 -- The tokens of a text, one at a time.
 use Rattle.std.proofs.Common.{◌≡◌, ℕ, ◌<◌, suc, List, [], ◌∷◌, drop, get_or, length, refl, ap, sym, ◌∙◌, arith}
 use Rattle.c_tree.specs.declared.token.Token.{Token}
-use Rattle.c_parse.specs.Lexeme.{Lexeme, lexeme, lexemes}
+use Rattle.c_tree.specs.Symbols.{Lexeme, lexeme, lexemes}
 use Rattle.c_parse.specs.Parser.{head, tail}
 
 pub lexemes-none : (text : List ℕ) (ts : List Token) → length ts < 1 → lexemes text ts ≡ []
@@ -28,4 +28,16 @@ unfolding lexemes
 lexemes-tail text [] ls is = ap tail is
 lexemes-tail text (t ∷ ts) ls is = ap tail is
 
-pub ruleset front = (lexemes-none, lexemes-cons, length-lexemes)
+pub lexemes-second : (text : List ℕ) (ts : List Token) (d : Token) → 1 < length ts → tail (lexemes text ts) ≡ lexeme text (get_or ts 1 d) ∷ lexemes text (drop 2 ts)
+unfolding lexemes
+lexemes-second text [] d h = absurd (omega arith)
+lexemes-second text (t ∷ []) d h = absurd (omega arith)
+lexemes-second text (t ∷ u ∷ ts) d h = refl
+
+pub lexemes-no_second : (text : List ℕ) (ts : List Token) → length ts < 2 → tail (lexemes text ts) ≡ []
+unfolding lexemes
+lexemes-no_second text [] h = refl
+lexemes-no_second text (t ∷ []) h = refl
+lexemes-no_second text (t ∷ u ∷ ts) h = absurd (omega arith)
+
+pub ruleset front = (lexemes-none, lexemes-cons, length-lexemes, lexemes-second, lexemes-no_second)

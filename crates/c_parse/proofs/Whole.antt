@@ -1,47 +1,56 @@
 -- What is read is spelled, what is spelled is read, and there is one tree.
-use Rattle.std.proofs.Common.{◌≡◌, ◌≢◌, ℕ, max, ◌≤◌, List, [], Ok, Err, refl, sym, ap, subst, ◌∙◌, arith}
+use Rattle.std.proofs.Common.{◌≡◌, ◌≢◌, ℕ, max, ◌≤◌, List, [], length, Ok, Err, refl, sym, ap, subst, ◌∙◌, arith}
 use Rattle.c_tree.specs.declared.token.Token.{Token}
-use Rattle.c_tree.specs.declared.unit.RawFunc.{RawFunc}
+use Rattle.c_tree.specs.declared.unit.RawTop.{RawTop}
 use Rattle.c_tree.specs.declared.unit.Unit.{Unit as Tree}
+use Rattle.c_tree.specs.Heights.{tops_height, unit_height}
+use Rattle.c_tree.specs.Spelling.{Tops, Spells}
+use Rattle.c_tree.specs.Symbols.{Lexeme, lexemes}
 use Rattle.c_parse.specs.declared.fault.Fault.{Fault}
 use Rattle.c_parse.specs.declared.fault.Fault.TheVariants.{NoMemory, Syntax, Depth}
-use Rattle.c_parse.specs.Height.{body_height, unit_height}
-use Rattle.c_parse.specs.Lexeme.{Lexeme, lexemes}
+use Rattle.c_parse.specs.Answers.{tree_of}
 use Rattle.c_parse.specs.Parser.{Outcome}
 use Rattle.c_parse.specs.ReadUnit.{whole}
-use Rattle.c_parse.specs.Spelling.{Spells, tree_of}
+use Rattle.c_parse.proofs.Phrases.{IsPhrase}
 use Rattle.c_parse.proofs.Steps.{Sound}
-use Rattle.c_parse.proofs.UnitComplete.{complete_whole}
-use Rattle.c_parse.proofs.UnitSound.{IsFunction, whole_sound}
+use Rattle.c_parse.proofs.TopsComplete.{complete_whole}
+use Rattle.c_parse.proofs.UnitSound.{whole_sound}
 
-same_function : (f g : RawFunc) (rest : List Lexeme) (outcome : Outcome RawFunc) → outcome ≡ Ok (f, []) → outcome ≡ Ok (g, rest) → f ≡ g
-same_function f g rest outcome h i =
-    let pair : RawFunc × List Lexeme = (f, []) in
-    let other : RawFunc × List Lexeme = (g, rest) in
-    let same : pair ≡ other = cc in ap (λ (p : RawFunc × List Lexeme). p.0) same
+same_tops : (xs ys : List RawTop) (rest : List Lexeme) (outcome : Outcome (List RawTop)) → outcome ≡ Ok (xs, []) → outcome ≡ Ok (ys, rest) → xs ≡ ys
+same_tops xs ys rest outcome h i =
+    let pair : List RawTop × List Lexeme = (xs, []) in
+    let other : List RawTop × List Lexeme = (ys, rest) in
+    let same : pair ≡ other = cc in ap (λ (p : List RawTop × List Lexeme). p.0) same
+
+-- a tree that is spelled is that of its declarations
+is_tree : (text : List ℕ) (tokens : List Token) (unit : Tree) → Spells text tokens unit → unit ≡ tree_of text unit.tops
+is_tree text tokens unit x = ap (λ (n : ℕ). let tree : Tree = record { tops = unit.tops; end = n } in tree) x.ends
 
 pub unique : (text : List ℕ) (tokens : List Token) (a b : Tree) → Spells text tokens a → Spells text tokens b → a ≡ b
 unique text tokens a b x y =
-    let room = max (body_height x.function.body) (body_height y.function.body) in
-    let same = same_function x.function y.function [] (whole room (lexemes text tokens)) (complete_whole x.spelled room (omega arith)) (complete_whole y.spelled room (omega arith)) in
-    x.tree ∙ ap (tree_of text) same ∙ sym y.tree
+    let room = max (tops_height a.tops) (tops_height b.tops) in
+    let same = same_tops a.tops b.tops [] (whole room (lexemes text tokens)) (complete_whole x.tops room (omega arith)) (complete_whole y.tops room (omega arith)) in
+    is_tree text tokens a x ∙ ap (tree_of text) same ∙ sym (is_tree text tokens b y)
 
-is_function : (text : List ℕ) (tokens : List Token) (f : RawFunc) (rest : List Lexeme) → whole 128 (lexemes text tokens) ≡ Ok (f, rest) → IsFunction 128 (lexemes text tokens) f []
-is_function text tokens f rest h = subst (Sound (λ g u. IsFunction 128 (lexemes text tokens) g [])) h (whole_sound 128 (lexemes text tokens))
+are_tops : (text : List ℕ) (tokens : List Token) (xs : List RawTop) (rest : List Lexeme) → whole 128 (lexemes text tokens) ≡ Ok (xs, rest) → IsPhrase Tops tops_height 128 (lexemes text tokens) xs []
+are_tops text tokens xs rest h = subst (Sound (λ ys u. IsPhrase Tops tops_height 128 (lexemes text tokens) ys [])) h (whole_sound 128 (lexemes text tokens))
 
-pub spelled : (text : List ℕ) (tokens : List Token) (f : RawFunc) (rest : List Lexeme) (unit : Tree) → whole 128 (lexemes text tokens) ≡ Ok (f, rest) → unit ≡ tree_of text f → Spells text tokens unit
-spelled text tokens f rest unit h is = record { function = f; spelled = (is_function text tokens f rest h).spells; tree = is }
+tree_spelled : (text : List ℕ) (tokens : List Token) (xs : List RawTop) → Tops (lexemes text tokens) xs [] → Spells text tokens (tree_of text xs)
+tree_spelled text tokens xs d = record { tops = d; ends = refl }
 
-pub low : (text : List ℕ) (tokens : List Token) (f : RawFunc) (rest : List Lexeme) (unit : Tree) → whole 128 (lexemes text tokens) ≡ Ok (f, rest) → unit ≡ tree_of text f → unit_height unit ≤ 128
-low text tokens f rest unit h is = rw is (omega (arith, (is_function text tokens f rest h).low))
+pub spelled : (text : List ℕ) (tokens : List Token) (xs : List RawTop) (rest : List Lexeme) (unit : Tree) → whole 128 (lexemes text tokens) ≡ Ok (xs, rest) → unit ≡ tree_of text xs → Spells text tokens unit
+spelled text tokens xs rest unit h is = subst (Spells text tokens) (sym is) (tree_spelled text tokens xs (are_tops text tokens xs rest h).spells)
 
-complete : (text : List ℕ) (tokens : List Token) (unit : Tree) (x : Spells text tokens unit) → unit_height unit ≤ 128 → whole 128 (lexemes text tokens) ≡ Ok (x.function, [])
-complete text tokens unit x h = let inside : unit_height (tree_of text x.function) ≤ 128 = rw x.tree at h in complete_whole x.spelled 128 (omega (arith, inside))
+pub low : (text : List ℕ) (tokens : List Token) (xs : List RawTop) (rest : List Lexeme) (unit : Tree) → whole 128 (lexemes text tokens) ≡ Ok (xs, rest) → unit ≡ tree_of text xs → unit_height unit ≤ 128
+low text tokens xs rest unit h is = rw is (are_tops text tokens xs rest h).low
 
-pub only : (text : List ℕ) (tokens : List Token) (f : RawFunc) (rest : List Lexeme) (unit other : Tree) → whole 128 (lexemes text tokens) ≡ Ok (f, rest) → unit ≡ tree_of text f
+complete : (text : List ℕ) (tokens : List Token) (unit : Tree) → Spells text tokens unit → unit_height unit ≤ 128 → whole 128 (lexemes text tokens) ≡ Ok (unit.tops, [])
+complete text tokens unit x h = complete_whole x.tops 128 h
+
+pub only : (text : List ℕ) (tokens : List Token) (xs : List RawTop) (rest : List Lexeme) (unit other : Tree) → whole 128 (lexemes text tokens) ≡ Ok (xs, rest) → unit ≡ tree_of text xs
     → Spells text tokens other → unit_height other ≤ 128 → unit ≡ other
-only text tokens f rest unit other h is x low_other =
-    is ∙ ap (tree_of text) (sym (same_function x.function f rest (whole 128 (lexemes text tokens)) (complete text tokens other x low_other) h)) ∙ sym x.tree
+only text tokens xs rest unit other h is x low_other =
+    is ∙ ap (tree_of text) (sym (same_tops other.tops xs rest (whole 128 (lexemes text tokens)) (complete text tokens other x low_other) h)) ∙ sym (is_tree text tokens other x)
 
 -- where a tree that is low enough is spelled, memory alone may be wanting
 pub memory : (text : List ℕ) (tokens : List Token) (fault : Fault) (other : Tree) → (fault ≢ NoMemory → whole 128 (lexemes text tokens) ≡ Err fault) → Spells text tokens other → unit_height other ≤ 128 → fault ≡ NoMemory

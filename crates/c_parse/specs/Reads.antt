@@ -1,6 +1,6 @@
 -- What a function that reads ensures: what the parser gives, unless memory is wanting.
 use Rattle.std.specs.Prelude.{◌≡◌, ◌≢◌, List, Result, Ok, Err}
-use Rattle.c_parse.specs.Lexeme.{Lexeme}
+use Rattle.c_tree.specs.Symbols.{Lexeme}
 use Rattle.c_parse.specs.declared.fault.Fault.{Fault}
 use Rattle.c_parse.specs.declared.fault.Fault.TheVariants.{NoMemory}
 use Rattle.c_parse.specs.Parser.{Outcome}

@@ -8,13 +8,16 @@ ghost use Rattle.c_parse.specs.Reads.{Reads};
 use crate::fault::Fault;
 use crate::measured::MeasuredExpr;
 use crate::reader::Reader;
-use crate::symbol::{Symbol, level};
-use c_tree::{BinOp, RawExpr, Spot};
+use crate::symbol::{Next, binds, level, unary_operator};
+use c_tree::{BinOp, RawExpr, Spot, Symbol, Ty, UnOp};
 use sqlite_items::Boxed;
 use std::alloc::Global;
 
+/// The level of the unary operators and casts.
+const UNARY: u8 = 11;
+
 #[tactic(auto, using(crate::proofs::Layers::height_layers))]
-fn named(spot: Spot) -> MeasuredExpr
+fn scalar(spot: Spot) -> MeasuredExpr
     ensures low { result.height ≡ 1 }
     ensures value { result.expr ≡ RawExpr.Name spot }
 {
@@ -25,14 +28,53 @@ fn named(spot: Spot) -> MeasuredExpr
 }
 
 #[tactic(auto, using(crate::proofs::Layers::height_layers))]
-fn parenthesised(alloc: Global, at: u32, a: MeasuredExpr) -> Result<MeasuredExpr, Fault>
+fn element(alloc: Global, spot: Spot, a: MeasuredExpr) -> Result<MeasuredExpr, Fault>
     requires { a.height < 1000 }
     ensures low { IfOk result (λ t. t.height ≡ a.height + 1) }
-    ensures reads { Reads (λ t. t.expr) (Ok (RawExpr.Paren at a.expr, [])) result [] }
+    ensures reads { Reads (λ t. t.expr) (Ok (RawExpr.Elem spot a.expr, [])) result [] }
 {
     let height = a.height + 1;
     Ok(MeasuredExpr {
-        expr: RawExpr::Paren(at, Boxed::new(alloc, a.expr)?),
+        expr: RawExpr::Elem(spot, Boxed::new(alloc, a.expr)?),
+        height,
+    })
+}
+
+#[tactic(auto, using(crate::proofs::Layers::height_layers))]
+fn unary(alloc: Global, at: u32, op: UnOp, a: MeasuredExpr) -> Result<MeasuredExpr, Fault>
+    requires { a.height < 1000 }
+    ensures low { IfOk result (λ t. t.height ≡ a.height + 1) }
+    ensures reads { Reads (λ t. t.expr) (Ok (RawExpr.Un at op a.expr, [])) result [] }
+{
+    let height = a.height + 1;
+    Ok(MeasuredExpr {
+        expr: RawExpr::Un(at, op, Boxed::new(alloc, a.expr)?),
+        height,
+    })
+}
+
+#[tactic(auto, using(crate::proofs::Layers::height_layers))]
+fn cast(alloc: Global, at: u32, ty: Ty, a: MeasuredExpr) -> Result<MeasuredExpr, Fault>
+    requires { a.height < 1000 }
+    ensures low { IfOk result (λ t. t.height ≡ a.height + 1) }
+    ensures reads { Reads (λ t. t.expr) (Ok (RawExpr.Cast at ty a.expr, [])) result [] }
+{
+    let height = a.height + 1;
+    Ok(MeasuredExpr {
+        expr: RawExpr::Cast(at, ty, Boxed::new(alloc, a.expr)?),
+        height,
+    })
+}
+
+#[tactic(auto, using(crate::proofs::Layers::height_layers))]
+fn parenthesised(alloc: Global, at: u32, inner: MeasuredExpr) -> Result<MeasuredExpr, Fault>
+    requires { inner.height < 1000 }
+    ensures low { IfOk result (λ t. t.height ≡ inner.height + 1) }
+    ensures reads { Reads (λ t. t.expr) (Ok (RawExpr.Paren at inner.expr, [])) result [] }
+{
+    let height = inner.height + 1;
+    Ok(MeasuredExpr {
+        expr: RawExpr::Paren(at, Boxed::new(alloc, inner.expr)?),
         height,
     })
 }
@@ -47,6 +89,30 @@ fn binary(alloc: Global, op: BinOp, a: MeasuredExpr, b: MeasuredExpr) -> Result<
     let height = a.height.max(b.height) + 1;
     Ok(MeasuredExpr {
         expr: RawExpr::Bin(op, Boxed::new(alloc, a.expr)?, Boxed::new(alloc, b.expr)?),
+        height,
+    })
+}
+
+#[tactic(auto, using(crate::proofs::Layers::height_layers))]
+fn conditional(
+    alloc: Global,
+    a: MeasuredExpr,
+    b: MeasuredExpr,
+    c: MeasuredExpr,
+) -> Result<MeasuredExpr, Fault>
+    requires a { a.height < 1000 }
+    requires b { b.height < 1000 }
+    requires c { c.height < 1000 }
+    ensures low { IfOk result (λ t. t.height ≡ max a.height (max b.height c.height) + 1) }
+    ensures reads { Reads (λ t. t.expr) (Ok (RawExpr.Cond a.expr b.expr c.expr, [])) result [] }
+{
+    let height = a.height.max(b.height.max(c.height)) + 1;
+    Ok(MeasuredExpr {
+        expr: RawExpr::Cond(
+            Boxed::new(alloc, a.expr)?,
+            Boxed::new(alloc, b.expr)?,
+            Boxed::new(alloc, c.expr)?,
+        ),
         height,
     })
 }
@@ -80,17 +146,17 @@ impl<'a> Reader<'a> {
     {
         let mut left = first;
         for _turn in 0..room {
-            match self.next() {
-                None => return Ok(left),
-                Some(op) => {
-                    if level(op) < least {
-                        return Ok(left);
-                    }
-                    if left.height >= room {
-                        return Err(self.too_deep());
-                    }
-                    left = self.operation(room - 1, op, left)?;
-                }
+            let next = self.next();
+            if !binds(least, next) {
+                return Ok(left);
+            }
+            if left.height >= room {
+                return Err(self.too_deep());
+            }
+            match next {
+                Next::Stop => return Ok(left),
+                Next::Ask => return self.conditional(room - 1, left),
+                Next::By(op) => left = self.operation(room - 1, op, left)?,
             }
         }
         Err(self.too_deep())
@@ -116,14 +182,32 @@ impl<'a> Reader<'a> {
         binary(self.alloc(), op, left, right)
     }
 
+    /// The `?` that comes next, and the two expressions that it chooses from.
     #[cycle(expr)]
-    #[tactic(auto, unfolding(crate::specs::ReadExpr::operand))]
+    #[tactic(auto, unfolding(crate::specs::ReadExpr::conditional))]
+    fn conditional(&mut self, room: usize, left: MeasuredExpr) -> Result<MeasuredExpr, Fault>
+        requires some { 0 < length self.old }
+        requires few { room < 999 }
+        requires low { left.height ≤ room }
+        ensures low { IfOk result (λ t. t.height ≤ room + 1) }
+        ensures reads { Reads (λ t. t.expr) (spec.conditional (spec.expr room) left.expr self.old) result self.new }
+    {
+        self.take();
+        let a = self.expr(room, 0)?;
+        self.expect(Symbol::Colon)?;
+        let b = self.expr(room, 0)?;
+        conditional(self.alloc(), left, a, b)
+    }
+
+    #[cycle(expr)]
+    #[tactic(auto, using(crate::proofs::Turns::turns), unfolding(crate::specs::ReadExpr::operand))]
     fn operand(&mut self, room: usize) -> Result<MeasuredExpr, Fault>
         requires { room < 999 }
         ensures low { IfOk result (λ t. t.height ≤ room + 1) }
         ensures reads { Reads (λ t. t.expr) (spec.operand (spec.expr room) self.old) result self.new }
     {
         match self.peek() {
+            None => Err(self.refuse()),
             Some(Symbol::Number) => {
                 let number = self.number()?;
                 Ok(MeasuredExpr {
@@ -131,23 +215,98 @@ impl<'a> Reader<'a> {
                     height: 1,
                 })
             }
-            Some(Symbol::Name) => {
-                let spot = self.name()?;
-                Ok(named(spot))
-            }
-            Some(Symbol::LeftParen) => self.paren(room),
-            _ => Err(self.refuse()),
+            Some(Symbol::Name) => self.variable(room),
+            Some(Symbol::LeftParen) => self.parenthesised(room),
+            Some(found) => match unary_operator(found) {
+                None => Err(self.refuse()),
+                Some(op) => self.unary(room, op),
+            },
         }
     }
 
+    /// The unary operator that comes next, and its operand.
     #[cycle(expr)]
-    #[tactic(auto, unfolding(crate::specs::ReadExpr::paren))]
-    fn paren(&mut self, room: usize) -> Result<MeasuredExpr, Fault>
+    #[tactic(auto, unfolding(crate::specs::ReadExpr::unary))]
+    fn unary(&mut self, room: usize, op: UnOp) -> Result<MeasuredExpr, Fault>
+        requires some { 0 < length self.old }
+        requires few { room < 999 }
+        ensures low { IfOk result (λ t. t.height ≤ room + 1) }
+        ensures reads { Reads (λ t. t.expr) (spec.unary (spec.expr room) op self.old) result self.new }
+    {
+        let at = self.place();
+        self.take();
+        let a = self.expr(room, UNARY)?;
+        unary(self.alloc(), at, op, a)
+    }
+
+    /// A scalar, or an element of an array.
+    #[cycle(expr)]
+    #[tactic(auto, unfolding(crate::specs::ReadExpr::variable, crate::specs::ReadExpr::named))]
+    fn variable(&mut self, room: usize) -> Result<MeasuredExpr, Fault>
         requires { room < 999 }
         ensures low { IfOk result (λ t. t.height ≤ room + 1) }
-        ensures reads { Reads (λ t. t.expr) (spec.paren (spec.expr room) self.old) result self.new }
+        ensures reads { Reads (λ t. t.expr) (spec.variable (spec.expr room) self.old) result self.new }
+    {
+        let spot = self.name()?;
+        if !self.sees(Symbol::LeftBracket) {
+            return Ok(scalar(spot));
+        }
+        let a = self.index(room)?;
+        element(self.alloc(), spot, a)
+    }
+
+    /// The brackets after a name, and what stands in them.
+    #[cycle(expr)]
+    #[tactic(auto, unfolding(crate::specs::ReadExpr::index))]
+    pub fn index(&mut self, room: usize) -> Result<MeasuredExpr, Fault>
+        requires { room < 999 }
+        ensures low { IfOk result (λ t. t.height ≤ room) }
+        ensures reads { Reads (λ t. t.expr) (spec.index (spec.expr room) self.old) result self.new }
+    {
+        self.expect(Symbol::LeftBracket)?;
+        let a = self.expr(room, 0)?;
+        self.expect(Symbol::RightBracket)?;
+        Ok(a)
+    }
+
+    /// A cast, or an expression in parentheses.
+    #[cycle(expr)]
+    #[tactic(auto, unfolding(crate::specs::ReadExpr::parenthesised, crate::specs::ReadExpr::opened))]
+    fn parenthesised(&mut self, room: usize) -> Result<MeasuredExpr, Fault>
+        requires { room < 999 }
+        ensures low { IfOk result (λ t. t.height ≤ room + 1) }
+        ensures reads { Reads (λ t. t.expr) (spec.parenthesised (spec.expr room) self.old) result self.new }
     {
         let at = self.expect(Symbol::LeftParen)?;
+        if self.begins_type() {
+            self.cast(room, at)
+        } else {
+            self.paren(room, at)
+        }
+    }
+
+    /// What stands after the `(` of a cast, whose place is `at`.
+    #[cycle(expr)]
+    #[tactic(auto, unfolding(crate::specs::ReadExpr::cast))]
+    fn cast(&mut self, room: usize, at: u32) -> Result<MeasuredExpr, Fault>
+        requires { room < 999 }
+        ensures low { IfOk result (λ t. t.height ≤ room + 1) }
+        ensures reads { Reads (λ t. t.expr) (spec.cast (spec.expr room) at self.old) result self.new }
+    {
+        let ty = self.type_name()?;
+        self.expect(Symbol::RightParen)?;
+        let a = self.expr(room, UNARY)?;
+        cast(self.alloc(), at, ty, a)
+    }
+
+    /// What stands after the `(` of an expression in parentheses, whose place is `at`.
+    #[cycle(expr)]
+    #[tactic(auto, unfolding(crate::specs::ReadExpr::paren))]
+    fn paren(&mut self, room: usize, at: u32) -> Result<MeasuredExpr, Fault>
+        requires { room < 999 }
+        ensures low { IfOk result (λ t. t.height ≤ room + 1) }
+        ensures reads { Reads (λ t. t.expr) (spec.paren (spec.expr room) at self.old) result self.new }
+    {
         let a = self.expr(room, 0)?;
         self.expect(Symbol::RightParen)?;
         parenthesised(self.alloc(), at, a)

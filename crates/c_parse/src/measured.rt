@@ -1,10 +1,9 @@
 //! Trees with their heights.
 
 ghost use Rattle.std.specs.Prelude.{◌≡◌};
-ghost use Rattle.c_parse.specs.Height as of;
+ghost use Rattle.c_tree.specs.Heights as of;
 
-use c_tree::{RawExpr, RawStmt};
-use sqlite_items::Items;
+use c_tree::RawExpr;
 
 /// An expression, with its height.
 #[derive(Drop)]
@@ -12,20 +11,4 @@ pub struct MeasuredExpr {
     pub expr: RawExpr,
     pub height: usize,
     ghost exact: { height ≡ of.height expr },
-}
-
-/// The expression of an initialiser or of a `return`, if it is there, with its height, or 0.
-#[derive(Drop)]
-pub struct MeasuredOption {
-    pub expr: Option<RawExpr>,
-    pub height: usize,
-    ghost exact: { height ≡ of.option_height expr },
-}
-
-/// Statements, with the greatest of their heights, or 0.
-#[derive(Drop)]
-pub struct MeasuredList {
-    pub list: Items<RawStmt>,
-    pub height: usize,
-    ghost exact: { height ≡ of.body_height list },
 }

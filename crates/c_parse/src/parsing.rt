@@ -3,31 +3,18 @@
 ghost use Rattle.std.specs.Prelude.{◌≡◌, ◌<◌, ◌≤◌, ◌^◌, ℕ, List, length, All, IfOk, IfErr};
 ghost use Rattle.c_tree.specs.declared.token.Token.{Token};
 ghost use Rattle.c_tree.specs.declared.unit.Unit.{Unit as Tree};
-ghost use Rattle.c_parse.specs.Height.{unit_height};
+ghost use Rattle.c_tree.specs.Heights.{unit_height};
+ghost use Rattle.c_tree.specs.Spelling.{Spells};
+ghost use Rattle.c_parse.specs.Answers.{Gives, IsPlace, IsRefusal};
 ghost use Rattle.c_parse.specs.Lexeme.{IsWithin};
-ghost use Rattle.c_parse.specs.Spelling.{Gives, IsPlace, IsRefusal, Spells, tree_of};
 
 use crate::fault::{Fault, ParseFault};
 use crate::reader::Reader;
-use c_tree::{RawFunc, RawTop, Token, Unit};
-use sqlite_items::Items;
-use std::alloc::{AllocError, Global};
+use c_tree::{Token, Unit};
+use std::alloc::Global;
 
 /// The greatest height of a tree that is read.
 const MAX_HEIGHT: usize = 128;
-
-/// The tree of a text that is this function.
-fn tree(alloc: Global, text: &[u8], function: RawFunc) -> Result<Unit, AllocError>
-    requires { length text.now < 2 ^ 32 }
-    ensures { IfOk result (λ unit. unit ≡ tree_of text.now function) }
-{
-    let mut tops = Items::new(alloc);
-    tops.push(RawTop::Func(function))?;
-    Ok(Unit {
-        tops,
-        end: text.len() as u32,
-    })
-}
 
 /// The place of the token from which on so many are left, or the end of the text.
 fn place(text: &[u8], tokens: &[Token], left: usize) -> u32
@@ -54,9 +41,8 @@ fn refusal(text: &[u8], tokens: &[Token], fault: Fault) -> ParseFault
     }
 }
 
-/// The tree that the tokens of the text spell (C11 6.5 to 6.9), if its height is at most 128. It is today that of one
-/// function. Every refusal but want of memory is `Syntax`, at the furthest token that was looked at, or at the end of
-/// the text.
+/// The tree that the tokens of the text spell (C11 6.5 to 6.9), if its height is at most 128. Every refusal but want of
+/// memory is `Syntax`, at the furthest token that was looked at, or at the end of the text.
 pub fn parse(alloc: Global, text: &[u8], tokens: &[Token]) -> Result<Unit, ParseFault>
     requires short { length text.now < 2 ^ 32 }
     requires within { All (IsWithin text.now) tokens.now }
@@ -69,7 +55,10 @@ pub fn parse(alloc: Global, text: &[u8], tokens: &[Token]) -> Result<Unit, Parse
 {
     let mut reader = Reader::new(alloc, text, tokens);
     match reader.whole(MAX_HEIGHT) {
-        Ok(function) => Ok(tree(alloc, text, function)?),
+        Ok(tops) => Ok(Unit {
+            tops,
+            end: text.len() as u32,
+        }),
         Err(fault) => Err(refusal(text, tokens, fault)),
     }
 }

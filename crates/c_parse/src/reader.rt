@@ -1,15 +1,16 @@
 //! A cursor over the tokens of a text.
 
-ghost use Rattle.std.specs.Prelude.{◌≡◌, ◌<◌, length, All, IfOk, Ok, Err};
-ghost use Rattle.c_parse.specs.Height.{height};
-ghost use Rattle.c_parse.specs.Lexeme.{IsWithin, lexemes, spot, constant};
+ghost use Rattle.std.specs.Prelude.{◌≡◌, ◌<◌, true, length, All, IfOk, Ok, Err};
+ghost use Rattle.c_tree.specs.Heights.{height};
+ghost use Rattle.c_tree.specs.Symbols.{lexeme, lexemes, spot};
+ghost use Rattle.c_parse.specs.Going as reading;
+ghost use Rattle.c_parse.specs.Lexeme.{IsWithin, constant, loop_bound};
 ghost use Rattle.c_parse.specs.Parser as spec;
-ghost use Rattle.c_parse.specs.ReadExpr as reading;
 ghost use Rattle.c_parse.specs.Reads.{Reads};
 
 use crate::fault::Fault;
-use crate::symbol::{Symbol, constant_of, operator, symbol_of};
-use c_tree::{BinOp, Name, RawExpr, Spot, Token, Ty};
+use crate::symbol::{Next, bound_of, constant_of, next_of, symbol_of};
+use c_tree::{Name, RawBound, RawExpr, Spot, Symbol, Token, Ty};
 use std::alloc::{AllocError, Global};
 use std::marker::Model;
 
@@ -23,7 +24,9 @@ pub struct Reader<'a> {
 
 impl<'a> Model for Reader<'a> {
     ghost use Rattle.std.specs.Prelude.{List, All};
-    ghost use Rattle.c_parse.specs.Lexeme.{Lexeme, IsWithin, lexemes};
+    ghost use Rattle.c_tree.specs.Symbols.{Lexeme, lexemes};
+    ghost use Rattle.c_parse.specs.Going as reading;
+    ghost use Rattle.c_parse.specs.Lexeme.{IsWithin};
 
     ghost Value = { List Lexeme };
 
@@ -46,7 +49,7 @@ impl<'a> Reader<'a> {
     }
 
     /// How many tokens are left.
-    #[tactic(auto, using(crate::proofs::Tokens::front), unfolding(crate::specs::Lexeme::lexeme))]
+    #[tactic(auto, using(crate::proofs::Tokens::front))]
     pub fn left(&self) -> usize
         ensures { result ≡ length self.now }
     {
@@ -54,7 +57,7 @@ impl<'a> Reader<'a> {
     }
 
     /// What the next token is.
-    #[tactic(auto, using(crate::proofs::Tokens::front), unfolding(crate::specs::Lexeme::lexeme))]
+    #[tactic(auto, using(crate::proofs::Tokens::front), unfolding(c_tree::specs::Symbols::lexeme))]
     pub fn peek(&self) -> Option<Symbol>
         ensures { result ≡ spec.first self.now }
     {
@@ -67,9 +70,23 @@ impl<'a> Reader<'a> {
         }
     }
 
+    /// What the token after the next one is.
+    #[tactic(auto, using(crate::proofs::Tokens::front), unfolding(c_tree::specs::Symbols::lexeme))]
+    pub fn peek_second(&self) -> Option<Symbol>
+        ensures { result ≡ spec.first (spec.tail self.now) }
+    {
+        match self.rest {
+            [_, second, ..] => {
+                let spelling = &self.text[second.from as usize..second.to as usize];
+                Some(symbol_of(second.kind, spelling))
+            }
+            _ => None,
+        }
+    }
+
     /// The place of the next token.
-    #[tactic(auto, using(crate::proofs::Tokens::front), unfolding(crate::specs::Lexeme::lexeme))]
-    fn place(&self) -> u32
+    #[tactic(auto, using(crate::proofs::Tokens::front), unfolding(c_tree::specs::Symbols::lexeme))]
+    pub fn place(&self) -> u32
         requires { 0 < length self.now }
         ensures { result ≡ (spec.head self.now).at }
     {
@@ -77,7 +94,7 @@ impl<'a> Reader<'a> {
     }
 
     /// The next token as a name.
-    #[tactic(auto, using(crate::proofs::Tokens::front), unfolding(crate::specs::Lexeme::lexeme))]
+    #[tactic(auto, using(crate::proofs::Tokens::front), unfolding(c_tree::specs::Symbols::lexeme))]
     fn spot(&self) -> Result<Spot, AllocError>
         requires { 0 < length self.now }
         ensures { IfOk result (λ x. x ≡ spot (spec.head self.now)) }
@@ -93,10 +110,11 @@ impl<'a> Reader<'a> {
         })
     }
 
-    /// The next token as an integer constant.
+    /// The next token, an integer constant.
     #[tactic(auto, using(crate::proofs::Tokens::front, crate::proofs::Layers::height_layers))]
     fn constant(&self) -> RawExpr
-        requires { 0 < length self.now }
+        requires some { 0 < length self.now }
+        requires number { spec.sees Symbol.Number self.now ≡ true }
         ensures value { result ≡ constant (spec.head self.now) }
         ensures low { height result ≡ 1 }
     {
@@ -105,8 +123,22 @@ impl<'a> Reader<'a> {
         RawExpr::Num(first.from, ty, value)
     }
 
+    /// The next token, a loop bound.
+    #[tactic(auto, using(crate::proofs::Tokens::front))]
+    fn loop_bound(&self) -> RawBound
+        requires some { 0 < length self.now }
+        requires bound { spec.sees Symbol.Bound self.now ≡ true }
+        ensures { result ≡ loop_bound (spec.head self.now) }
+    {
+        let first = self.rest[0];
+        RawBound {
+            at: first.from,
+            value: bound_of(first.kind),
+        }
+    }
+
     /// Goes past the next token.
-    #[tactic(auto, using(crate::proofs::Tokens::front), unfolding(crate::specs::Lexeme::lexeme))]
+    #[tactic(auto, using(crate::proofs::Tokens::front), unfolding(c_tree::specs::Symbols::lexeme))]
     pub fn take(&mut self)
         requires { 0 < length self.old }
         ensures { self.new ≡ spec.tail self.old }
@@ -114,11 +146,23 @@ impl<'a> Reader<'a> {
         self.rest = &self.rest[1..];
     }
 
+    /// Whether the next token is the symbol.
     #[tactic(auto, unfolding(crate::specs::Parser::sees))]
     pub fn sees(&self, wanted: Symbol) -> bool
         ensures { result ≡ spec.sees wanted self.now }
     {
         match self.peek() {
+            None => false,
+            Some(found) => found == wanted,
+        }
+    }
+
+    /// Whether the token after the next one is the symbol.
+    #[tactic(auto, unfolding(crate::specs::Parser::sees_second))]
+    pub fn sees_second(&self, wanted: Symbol) -> bool
+        ensures { result ≡ spec.sees_second wanted self.now }
+    {
+        match self.peek_second() {
             None => false,
             Some(found) => found == wanted,
         }
@@ -178,19 +222,49 @@ impl<'a> Reader<'a> {
         Ok(number)
     }
 
-    /// The binary operator that comes next.
-    #[tactic(auto, unfolding(crate::specs::ReadExpr::next))]
-    pub fn next(&self) -> Option<BinOp>
-        ensures { result ≡ reading.next self.now }
+    /// Reads a loop bound.
+    #[tactic(auto, using(crate::proofs::Steps::seeing), unfolding(crate::specs::Parser::token))]
+    pub fn bound(&mut self) -> Result<RawBound, Fault>
+        ensures { Reads (λ x. x) (spec.bound self.old) result self.new }
     {
-        operator(self.peek()?)
+        if !self.sees(Symbol::Bound) {
+            return Err(self.refuse());
+        }
+        let bound = self.loop_bound();
+        self.take();
+        Ok(bound)
+    }
+
+    /// Reads the symbol if it comes next, and tells whether it did.
+    #[tactic(auto, using(crate::proofs::Steps::seeing), unfolding(crate::specs::Parser::optional))]
+    pub fn optional(&mut self, word: Symbol) -> bool
+        ensures { spec.optional word self.old ≡ Ok (result, self.new) }
+    {
+        if !self.sees(word) {
+            return false;
+        }
+        self.take();
+        true
     }
 
     #[tactic(auto, unfolding(crate::specs::Parser::begins_type))]
     pub fn begins_type(&self) -> bool
         ensures { result ≡ spec.begins_type self.now }
     {
-        self.sees(Symbol::Int)
+        matches!(
+            self.peek(),
+            Some(Symbol::Int | Symbol::Signed | Symbol::Unsigned)
+        )
+    }
+
+    /// Reads a word of a type, after which an `int` may stand.
+    #[tactic(auto, unfolding(crate::specs::Parser::with_int))]
+    fn with_int(&mut self, word: Symbol, ty: Ty) -> Result<Ty, Fault>
+        ensures { Reads (λ x. x) (spec.with_int word ty self.old) result self.new }
+    {
+        self.expect(word)?;
+        self.optional(Symbol::Int);
+        Ok(ty)
     }
 
     /// Reads the name of a type.
@@ -198,7 +272,52 @@ impl<'a> Reader<'a> {
     pub fn type_name(&mut self) -> Result<Ty, Fault>
         ensures { Reads (λ x. x) (spec.type_name self.old) result self.new }
     {
-        self.expect(Symbol::Int)?;
-        Ok(Ty::Int)
+        match self.peek() {
+            Some(Symbol::Int) => {
+                self.expect(Symbol::Int)?;
+                Ok(Ty::Int)
+            }
+            Some(Symbol::Signed) => self.with_int(Symbol::Signed, Ty::Int),
+            Some(Symbol::Unsigned) => self.with_int(Symbol::Unsigned, Ty::Unsigned),
+            _ => Err(self.refuse()),
+        }
+    }
+
+    /// How an expression goes on with the next token.
+    #[tactic(auto, unfolding(crate::specs::Going::next))]
+    pub fn next(&self) -> Next
+        ensures { result ≡ reading.next self.now }
+    {
+        next_of(self.peek())
+    }
+
+    /// Whether a further phrase comes, in a list of phrases with commas.
+    #[tactic(auto, unfolding(crate::specs::Parser::another))]
+    pub fn another(&self) -> bool
+        ensures { result ≡ spec.another self.now }
+    {
+        self.sees(Symbol::Comma)
+    }
+
+    /// Whether a further value comes, in a list that may end with a comma.
+    #[tactic(auto, unfolding(crate::specs::Parser::another_value))]
+    pub fn another_value(&self) -> bool
+        ensures { result ≡ spec.another_value self.now }
+    {
+        self.sees(Symbol::Comma) && !self.sees_second(Symbol::RightBrace)
+    }
+}
+
+impl<'a> Reader<'a> {
+    /// The reader past the next two tokens.
+    #[tactic(auto, using(crate::proofs::StmtTurns::next_symbol))]
+    pub fn past_two(&self) -> Reader<'a>
+        requires { 1 < length self.now }
+        ensures { result ≡ spec.tail (spec.tail self.now) }
+    {
+        let mut ahead = Reader::new(self.alloc, self.text, self.rest);
+        ahead.take();
+        ahead.take();
+        ahead
     }
 }

@@ -1,45 +1,31 @@
 //! Which word or mark of the grammar a token is.
 
-ghost use Rattle.std.specs.Prelude.{◌≡◌};
-ghost use Rattle.c_parse.specs.Expressions as grammar;
-ghost use Rattle.c_parse.specs.Lexeme as spec;
+ghost use Rattle.std.specs.Prelude.{◌≡◌, ℕ, List};
+ghost use Rattle.c_tree.specs.SpelledExpressions as grammar;
+ghost use Rattle.c_tree.specs.Symbols as spec;
+ghost use Rattle.c_parse.specs.Going as reading;
 
-use c_tree::{BinOp, Kind, Ty};
-
-/// What a token is to the grammar: one of its keywords, one of its punctuators, a name, an integer constant, or
-/// what it does not have.
-#[derive(Clone, Copy, Debug, PartialEq, Eq)]
-pub enum Symbol {
-    Int,
-    Void,
-    If,
-    Else,
-    Return,
-    LeftParen,
-    RightParen,
-    LeftBrace,
-    RightBrace,
-    Semicolon,
-    Comma,
-    Assign,
-    Plus,
-    Minus,
-    Less,
-    Equal,
-    Name,
-    Number,
-    Other,
-}
+use c_tree::{BinOp, Kind, Symbol, Ty, UnOp};
 
 fn word(spelling: &[u8]) -> Symbol
     ensures { result ≡ spec.look_up spec.words spelling.now }
 {
     match spelling {
         b"int" => Symbol::Int,
+        b"unsigned" => Symbol::Unsigned,
+        b"signed" => Symbol::Signed,
         b"void" => Symbol::Void,
         b"if" => Symbol::If,
         b"else" => Symbol::Else,
         b"return" => Symbol::Return,
+        b"while" => Symbol::While,
+        b"for" => Symbol::For,
+        b"do" => Symbol::Do,
+        b"break" => Symbol::Break,
+        b"continue" => Symbol::Continue,
+        b"const" => Symbol::Const,
+        b"static" => Symbol::Static,
+        b"extern" => Symbol::Extern,
         _ => Symbol::Other,
     }
 }
@@ -52,13 +38,45 @@ fn mark(spelling: &[u8]) -> Symbol
         b")" => Symbol::RightParen,
         b"{" => Symbol::LeftBrace,
         b"}" => Symbol::RightBrace,
+        b"[" => Symbol::LeftBracket,
+        b"]" => Symbol::RightBracket,
         b";" => Symbol::Semicolon,
         b"," => Symbol::Comma,
         b"=" => Symbol::Assign,
-        b"+" => Symbol::Plus,
-        b"-" => Symbol::Minus,
-        b"<" => Symbol::Less,
-        b"==" => Symbol::Equal,
+        b"?" => Symbol::Question,
+        b":" => Symbol::Colon,
+        b"~" => Symbol::Tilde,
+        b"!" => Symbol::Exclamation,
+        b"++" => Symbol::Step(BinOp::Add),
+        b"--" => Symbol::Step(BinOp::Sub),
+        b"+" => Symbol::Operator(BinOp::Add),
+        b"-" => Symbol::Operator(BinOp::Sub),
+        b"*" => Symbol::Operator(BinOp::Mul),
+        b"/" => Symbol::Operator(BinOp::Div),
+        b"%" => Symbol::Operator(BinOp::Rem),
+        b"<<" => Symbol::Operator(BinOp::Shl),
+        b">>" => Symbol::Operator(BinOp::Shr),
+        b"<" => Symbol::Operator(BinOp::Lt),
+        b">" => Symbol::Operator(BinOp::Gt),
+        b"<=" => Symbol::Operator(BinOp::Le),
+        b">=" => Symbol::Operator(BinOp::Ge),
+        b"==" => Symbol::Operator(BinOp::Eq),
+        b"!=" => Symbol::Operator(BinOp::Ne),
+        b"&" => Symbol::Operator(BinOp::And),
+        b"^" => Symbol::Operator(BinOp::Xor),
+        b"|" => Symbol::Operator(BinOp::Or),
+        b"&&" => Symbol::Operator(BinOp::Both),
+        b"||" => Symbol::Operator(BinOp::Either),
+        b"+=" => Symbol::Compound(BinOp::Add),
+        b"-=" => Symbol::Compound(BinOp::Sub),
+        b"*=" => Symbol::Compound(BinOp::Mul),
+        b"/=" => Symbol::Compound(BinOp::Div),
+        b"%=" => Symbol::Compound(BinOp::Rem),
+        b"<<=" => Symbol::Compound(BinOp::Shl),
+        b">>=" => Symbol::Compound(BinOp::Shr),
+        b"&=" => Symbol::Compound(BinOp::And),
+        b"^=" => Symbol::Compound(BinOp::Xor),
+        b"|=" => Symbol::Compound(BinOp::Or),
         _ => Symbol::Other,
     }
 }
@@ -72,14 +90,14 @@ pub fn symbol_of(kind: Kind, spelling: &[u8]) -> Symbol
         Kind::Name => Symbol::Name,
         Kind::Number { .. } => Symbol::Number,
         Kind::Mark => mark(spelling),
-        Kind::Bound(_) => Symbol::Other,
+        Kind::Bound(_) => Symbol::Bound,
     }
 }
 
 /// The type and the value of an integer constant; `int` and 0 for any other token.
 pub fn constant_of(kind: Kind) -> (Ty, u32)
     ensures ty { result.0 ≡ spec.type_of kind }
-    ensures value { result.1 ≡ spec.value_of kind }
+    ensures value { (bytes : List ℕ) → spec.symbol_of kind bytes ≡ Symbol.Number → result.1 ≡ spec.value_of kind }
 {
     match kind {
         Kind::Number {
@@ -94,15 +112,56 @@ pub fn constant_of(kind: Kind) -> (Ty, u32)
     }
 }
 
-/// The binary operator that the symbol is.
-pub fn operator(symbol: Symbol) -> Option<BinOp>
-    ensures { result ≡ grammar.operator symbol }
+/// The number of a loop bound; 0 for any other token.
+pub fn bound_of(kind: Kind) -> u64
+    ensures { (bytes : List ℕ) → spec.symbol_of kind bytes ≡ Symbol.Bound → result ≡ spec.value_of kind }
+{
+    match kind {
+        Kind::Bound(number) => number,
+        _ => 0,
+    }
+}
+
+/// How what stands before a token goes on with it: not at all, as the condition of a `?`, or as the left operand of a
+/// binary operator.
+#[derive(Clone, Copy, Debug, PartialEq, Eq)]
+pub enum Next {
+    Stop,
+    Ask,
+    By(BinOp),
+}
+
+/// How an expression goes on with the symbol.
+pub fn next_of(symbol: Option<Symbol>) -> Next
+    ensures { result ≡ reading.next_of symbol }
 {
     match symbol {
-        Symbol::Plus => Some(BinOp::Add),
-        Symbol::Minus => Some(BinOp::Sub),
-        Symbol::Less => Some(BinOp::Lt),
-        Symbol::Equal => Some(BinOp::Eq),
+        Some(Symbol::Question) => Next::Ask,
+        Some(Symbol::Operator(operator)) => Next::By(operator),
+        _ => Next::Stop,
+    }
+}
+
+/// Whether an expression of the level `least` goes on so.
+pub fn binds(least: u8, next: Next) -> bool
+    ensures { result ≡ reading.binds least next }
+{
+    match next {
+        Next::Stop => false,
+        Next::Ask => least == 0,
+        Next::By(operator) => least <= level(operator),
+    }
+}
+
+/// The unary operator that the symbol is.
+pub fn unary_operator(symbol: Symbol) -> Option<UnOp>
+    ensures { result ≡ grammar.unary_operator symbol }
+{
+    match symbol {
+        Symbol::Operator(BinOp::Add) => Some(UnOp::Plus),
+        Symbol::Operator(BinOp::Sub) => Some(UnOp::Minus),
+        Symbol::Tilde => Some(UnOp::Flip),
+        Symbol::Exclamation => Some(UnOp::Not),
         _ => None,
     }
 }

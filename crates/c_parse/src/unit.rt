@@ -1,15 +1,25 @@
-//! Functions and whole texts (C11 6.9).
+//! Declarations and functions at file scope, and whole texts (C11 6.9). `room` is the greatest height of an expression of
+//! a declaration, and of a statement of a function's list.
 
-ghost use Rattle.std.specs.Prelude.{◌≡◌, ◌<◌, ◌≤◌, ◌^◌, length, List, All, IfOk, IfErr};
-ghost use Rattle.c_parse.specs.Height.{body_height};
+ghost use Rattle.std.specs.Prelude.{◌≡◌, ◌<◌, [], ◌∷◌, true, false, Some, None, Ok};
+ghost use Rattle.c_parse.specs.Parser.{another, phrases};
 ghost use Rattle.c_parse.specs.ReadUnit as spec;
 ghost use Rattle.c_parse.specs.Reads.{Reads};
 
 use crate::fault::Fault;
 use crate::reader::Reader;
-use crate::symbol::Symbol;
-use c_tree::{RawFunc, RawParam};
+use c_tree::{RawFunc, RawParam, RawTop, Symbol, Ty};
 use sqlite_items::Items;
+use std::alloc::Global;
+
+/// The list of this function alone.
+fn only(alloc: Global, function: RawFunc) -> Result<Items<RawTop>, Fault>
+    ensures { Reads (λ x. x) (Ok (RawTop.Func function ∷ [], [])) result [] }
+{
+    let mut list = Items::new(alloc);
+    list.push(RawTop::Func(function))?;
+    Ok(list)
+}
 
 impl<'a> Reader<'a> {
     #[tactic(auto, unfolding(crate::specs::ReadUnit::param))]
@@ -21,16 +31,16 @@ impl<'a> Reader<'a> {
         Ok(RawParam { ty, spot })
     }
 
-    /// Parameters, of which there is one at least. Each takes a token, so there are enough turns.
-    #[tactic(auto, using(crate::proofs::ParamTurns::param_turns))]
+    /// Parameters with commas between them. Each takes a token, so there are enough turns.
+    #[tactic(auto, using(crate::proofs::Lists::list_turns))]
     fn param_list(&mut self) -> Result<Items<RawParam>, Fault>
-        ensures { Reads (λ x. x) (spec.param_list (length self.old) self.old) result self.new }
+        ensures { Reads (λ x. x) (phrases another spec.param self.old) result self.new }
     {
         let mut list = Items::new(self.alloc());
         for _turn in 0..self.left() {
-            let param = self.param()?;
-            list.push(param)?;
-            if !self.sees(Symbol::Comma) {
+            let one = self.param()?;
+            list.push(one)?;
+            if !self.another() {
                 return Ok(list);
             }
             self.expect(Symbol::Comma)?;
@@ -52,37 +62,211 @@ impl<'a> Reader<'a> {
         self.param_list()
     }
 
-    /// A function whose statements are no higher than `room`.
-    #[tactic(auto, unfolding(crate::specs::ReadUnit::function))]
-    fn function(&mut self, room: usize) -> Result<RawFunc, Fault>
-        requires { room < 1000 }
-        ensures { Reads (λ x. x) (spec.function room self.old) result self.new }
+    /// An extern variable, which may be an array.
+    #[tactic(auto, unfolding(crate::specs::ReadUnit::outer_declarator))]
+    fn outer_declarator(&mut self, room: usize, constant: bool, ty: Ty) -> Result<RawTop, Fault>
+        requires { room < 999 }
+        ensures { Reads (λ x. x) (spec.outer_declarator room constant ty self.old) result self.new }
     {
-        let result = self.type_name()?;
+        let spot = self.name()?;
+        if !self.sees(Symbol::LeftBracket) {
+            return Ok(RawTop::Outer(constant, ty, spot, None));
+        }
+        let size = self.index(room)?;
+        Ok(RawTop::Outer(constant, ty, spot, Some(size.expr)))
+    }
+
+    #[tactic(auto, using(crate::proofs::Lists::list_turns))]
+    fn outer_list(
+        &mut self,
+        room: usize,
+        constant: bool,
+        ty: Ty,
+    ) -> Result<Items<RawTop>, Fault>
+        requires { room < 999 }
+        ensures { Reads (λ x. x) (phrases another (spec.outer_declarator room constant ty) self.old) result self.new }
+    {
+        let mut list = Items::new(self.alloc());
+        for _turn in 0..self.left() {
+            let one = self.outer_declarator(room, constant, ty)?;
+            list.push(one)?;
+            if !self.another() {
+                return Ok(list);
+            }
+            self.expect(Symbol::Comma)?;
+        }
+        Err(self.refuse())
+    }
+
+    #[tactic(auto, unfolding(crate::specs::ReadUnit::outers))]
+    fn outers(&mut self, room: usize) -> Result<Items<RawTop>, Fault>
+        requires { room < 999 }
+        ensures { Reads (λ x. x) (spec.outers room self.old) result self.new }
+    {
+        self.expect(Symbol::Extern)?;
+        let constant = self.optional(Symbol::Const);
+        let ty = self.type_name()?;
+        let list = self.outer_list(room, constant, ty)?;
+        self.expect(Symbol::Semicolon)?;
+        Ok(list)
+    }
+
+    /// A declarator of a variable.
+    #[tactic(auto, unfolding(crate::specs::ReadUnit::global, crate::specs::ReadStmt::declarator))]
+    fn global(&mut self, room: usize, kept: bool, constant: bool, ty: Ty) -> Result<RawTop, Fault>
+        requires { room < 999 }
+        ensures { Reads (λ x. x) (spec.global room kept constant ty self.old) result self.new }
+    {
+        let spot = self.name()?;
+        let shape = self.shaped(room)?;
+        Ok(RawTop::Global(kept, constant, ty, spot, shape))
+    }
+
+    #[tactic(auto, using(crate::proofs::Lists::list_turns))]
+    fn global_list(
+        &mut self,
+        room: usize,
+        kept: bool,
+        constant: bool,
+        ty: Ty,
+    ) -> Result<Items<RawTop>, Fault>
+        requires { room < 999 }
+        ensures { Reads (λ x. x) (phrases another (spec.global room kept constant ty) self.old) result self.new }
+    {
+        let mut list = Items::new(self.alloc());
+        for _turn in 0..self.left() {
+            let one = self.global(room, kept, constant, ty)?;
+            list.push(one)?;
+            if !self.another() {
+                return Ok(list);
+            }
+            self.expect(Symbol::Comma)?;
+        }
+        Err(self.refuse())
+    }
+
+    #[tactic(auto, unfolding(crate::specs::ReadUnit::globals))]
+    fn globals(
+        &mut self,
+        room: usize,
+        kept: bool,
+        constant: bool,
+        ty: Ty,
+    ) -> Result<Items<RawTop>, Fault>
+        requires { room < 999 }
+        ensures { Reads (λ x. x) (spec.globals room kept constant ty self.old) result self.new }
+    {
+        let list = self.global_list(room, kept, constant, ty)?;
+        self.expect(Symbol::Semicolon)?;
+        Ok(list)
+    }
+
+    /// A function from its name on.
+    #[tactic(auto, unfolding(crate::specs::ReadUnit::function))]
+    fn function(
+        &mut self,
+        room: usize,
+        kept: bool,
+        gives: Option<Ty>,
+    ) -> Result<Items<RawTop>, Fault>
+        requires { room < 999 }
+        ensures { Reads (λ x. x) (spec.function room kept gives self.old) result self.new }
+    {
         let spot = self.name()?;
         self.expect(Symbol::LeftParen)?;
         let params = self.params()?;
         self.expect(Symbol::RightParen)?;
         let body = self.block(room)?;
-        Ok(RawFunc {
-            kept: false,
-            result: Some(result),
+        let function = RawFunc {
+            kept,
+            result: gives,
             spot,
             params,
-            body: body.list,
-        })
+            body,
+        };
+        only(self.alloc(), function)
     }
 
-    /// A function, and nothing after it.
-    #[tactic(auto, unfolding(crate::specs::ReadUnit::whole))]
-    pub fn whole(&mut self, room: usize) -> Result<RawFunc, Fault>
-        requires { room < 1000 }
+    /// Variables, or a function that gives a value.
+    #[tactic(auto, unfolding(crate::specs::ReadUnit::typed))]
+    fn typed(&mut self, room: usize, kept: bool) -> Result<Items<RawTop>, Fault>
+        requires { room < 999 }
+        ensures { Reads (λ x. x) (spec.typed room kept self.old) result self.new }
+    {
+        let ty = self.type_name()?;
+        if self.begins_call() {
+            self.function(room, kept, Some(ty))
+        } else {
+            self.globals(room, kept, false, ty)
+        }
+    }
+
+    /// What may stand after `static`.
+    #[tactic(auto, unfolding(crate::specs::ReadUnit::own))]
+    fn own(&mut self, room: usize, kept: bool) -> Result<Items<RawTop>, Fault>
+        requires { room < 999 }
+        ensures { Reads (λ x. x) (spec.own room kept self.old) result self.new }
+    {
+        if self.sees(Symbol::Const) {
+            self.expect(Symbol::Const)?;
+            let ty = self.type_name()?;
+            return self.globals(room, kept, true, ty);
+        }
+        if self.sees(Symbol::Void) {
+            self.expect(Symbol::Void)?;
+            return self.function(room, kept, None);
+        }
+        self.typed(room, kept)
+    }
+
+    /// A declaration or a function.
+    #[tactic(auto, unfolding(crate::specs::ReadUnit::top_of))]
+    fn top_of(&mut self, room: usize) -> Result<Items<RawTop>, Fault>
+        requires { room < 999 }
+        ensures { Reads (λ x. x) (spec.top_of room self.old) result self.new }
+    {
+        if self.sees(Symbol::Extern) {
+            return self.outers(room);
+        }
+        let kept = self.optional(Symbol::Static);
+        self.own(room, kept)
+    }
+
+    /// Whether no token is left.
+    #[tactic(auto, using(crate::proofs::Until::ends))]
+    fn is_end(&self) -> bool
+        ensures { result ≡ spec.is_end self.now }
+    {
+        match self.peek() {
+            None => true,
+            Some(_) => false,
+        }
+    }
+
+    #[tactic(auto, unfolding(crate::specs::ReadUnit::finished))]
+    fn finished(&mut self, list: Items<RawTop>) -> Result<Items<RawTop>, Fault>
+        ensures { Reads (λ x. x) (spec.finished list self.old) result self.new }
+    {
+        if !self.is_end() {
+            return Err(self.refuse());
+        }
+        Ok(list)
+    }
+
+    /// All tokens. What is declared takes a token, so there are enough turns.
+    #[tactic(auto, using(crate::proofs::Until::until_turns))]
+    pub fn whole(&mut self, room: usize) -> Result<Items<RawTop>, Fault>
+        requires { room < 999 }
         ensures { Reads (λ x. x) (spec.whole room self.old) result self.new }
     {
-        let function = self.function(room)?;
-        match self.peek() {
-            None => Ok(function),
-            Some(_) => Err(self.refuse()),
+        let mut list = Items::new(self.alloc());
+        for _turn in 0..self.left() {
+            if self.is_end() {
+                return self.finished(list);
+            }
+            let one = self.top_of(room)?;
+            list.append(one)?;
         }
+        self.finished(list)
     }
 }

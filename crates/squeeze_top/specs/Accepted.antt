@@ -11,7 +11,7 @@ use Rattle.c_token.specs.declared.fault.TokenFault.TheVariants as token
 use Rattle.c_token.specs.Faults.{HasStrayByte, HasOpenComment, HasBadNumber, HasBadDirective}
 use Rattle.c_parse.specs.declared.fault.ParseFault.{ParseFault}
 use Rattle.c_parse.specs.declared.fault.ParseFault.TheVariants as parse
-use Rattle.c_parse.specs.Spelling.{IsPlace}
+use Rattle.c_parse.specs.Answers.{IsPlace}
 use Rattle.c_form.specs.Form.{IsOfForm}
 use Rattle.squeeze_top.specs.declared.refusal.Refusal.{Refusal}
 use Rattle.squeeze_top.specs.declared.refusal.Refusal.TheVariants.{Size, Tokens, Parse, Form}

@@ -1,4 +1,4 @@
-//! Tokens of test texts, which have a blank between any two tokens.
+//! Tokens of test texts, which have a blank between two operators that follow one another.
 
 ghost use Rattle.std.specs.Prelude.{◌<◌, ◌≤◌, ◌^◌, length, All, IfOk, OnOk};
 ghost use Rattle.c_parse.specs.Lexeme.{IsWithin};
@@ -7,12 +7,14 @@ use crate::{ParseFault, parse};
 use c_tree::{Kind, Token, Unit};
 use std::alloc::{AllocError, Global};
 
-const KEYWORDS: [&str; 8] = [
-    "int", "void", "if", "else", "return", "unsigned", "const", "static",
+const KEYWORDS: [&str; 16] = [
+    "int", "unsigned", "signed", "void", "if", "else", "return", "while", "for", "do", "break",
+    "continue", "const", "static", "extern", "sizeof",
 ];
 
-fn number(spelling: &[u8]) -> Kind {
-    let mut unsigned = false;
+/// The number that the digits write, and whether anything but digits stands there.
+fn number(spelling: &[u8]) -> (u32, bool) {
+    let mut other = false;
     let mut value = 0u32;
     for byte in spelling {
         if byte.is_ascii_digit() {
@@ -20,21 +22,29 @@ fn number(spelling: &[u8]) -> Kind {
                 .wrapping_mul(10)
                 .wrapping_add(u32::from(byte.wrapping_sub(b'0')));
         } else {
-            unsigned = true;
+            other = true;
         }
     }
-    Kind::Number { unsigned, value }
+    (value, other)
 }
 
+/// The kind of a piece of a text: `7` and `7u` are numbers, and `#7` is a loop bound.
 fn kind(spelling: &[u8]) -> Kind {
     match spelling {
-        [first, ..] if first.is_ascii_digit() => number(spelling),
+        [first, ..] if first.is_ascii_digit() => {
+            let (value, unsigned) = number(spelling);
+            Kind::Number { unsigned, value }
+        }
         [first, ..] if first.is_ascii_alphabetic() => {
             if KEYWORDS.iter().any(|word| word.as_bytes() == spelling) {
                 Kind::Word
             } else {
                 Kind::Name
             }
+        }
+        [b'#', ..] => {
+            let (value, _) = number(spelling);
+            Kind::Bound(u64::from(value))
         }
         _ => Kind::Mark,
     }
@@ -60,6 +70,19 @@ fn push(tokens: &mut Vec<Token>, text: &[u8], from: usize, to: usize) -> Result<
     Ok(())
 }
 
+/// A mark that is a token wherever it stands.
+fn is_mark(byte: u8) -> bool {
+    matches!(
+        byte,
+        b'(' | b')' | b'[' | b']' | b'{' | b'}' | b',' | b';'
+    )
+}
+
+/// A byte of an operator; those that follow one another are one token.
+fn is_sign(byte: u8) -> bool {
+    byte.is_ascii_punctuation() && !is_mark(byte) && byte != b'_' && byte != b'#'
+}
+
 fn tokens_of(alloc: Global, text: &[u8]) -> Result<Vec<Token>, AllocError>
     requires { length text.now < 2 ^ 32 }
     ensures { IfOk result (λ tokens. All (IsWithin text.now) tokens.items) }
@@ -67,9 +90,19 @@ fn tokens_of(alloc: Global, text: &[u8]) -> Result<Vec<Token>, AllocError>
     let mut tokens = Vec::new(alloc);
     let mut from = 0usize;
     for at in 0..text.len() {
-        if text[at] == b' ' {
+        if is_mark(text[at]) {
+            push(&mut tokens, text, from, at)?;
+            push(&mut tokens, text, at, at + 1)?;
+            from = at + 1;
+        } else if text[at] == b' ' {
             push(&mut tokens, text, from, at)?;
             from = at + 1;
+        } else if !is_sign(text[at]) && is_sign(text[from]) {
+            push(&mut tokens, text, from, at)?;
+            from = at;
+        } else if is_sign(text[at]) && !is_sign(text[from]) {
+            push(&mut tokens, text, from, at)?;
+            from = at;
         }
     }
     push(&mut tokens, text, from, text.len())?;

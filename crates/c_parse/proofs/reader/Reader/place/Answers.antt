@@ -1,5 +1,5 @@
 use Rattle.std.proofs.Common.{ap, sym}
-use Rattle.c_parse.specs.Lexeme.{Lexeme, lexeme}
+use Rattle.c_tree.specs.Symbols.{Lexeme, lexeme}
 use Rattle.c_parse.proofs.Tokens.{head-lexemes}
 use Rattle.c_parse.proofs.reader.Reader.place.Goals as goal
 

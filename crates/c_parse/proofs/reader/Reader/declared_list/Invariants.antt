@@ -1,0 +1,8 @@
+use Rattle.std.proofs.Common.{◌≡◌, ◌-◌}
+use Rattle.c_parse.specs.Parser.{another, phrases, separated_on}
+use Rattle.c_parse.specs.ReadStmt.{declared}
+use Rattle.c_parse.proofs.reader.Reader.declared_list.Given as goal
+
+abbrev pub invariant-loop-turn : goal.invariant-loop-turn
+invariant-loop-turn l = separated_on another (declared l.room l.constant l.ty) (l._turn-end - l._turn) l.list l.self
+    ≡ phrases another (declared l.room l.constant l.ty) l.fn.self

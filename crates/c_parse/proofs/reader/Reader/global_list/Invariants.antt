@@ -1,0 +1,8 @@
+use Rattle.std.proofs.Common.{◌≡◌, ◌-◌}
+use Rattle.c_parse.specs.Parser.{another, phrases, separated_on}
+use Rattle.c_parse.specs.ReadUnit.{global}
+use Rattle.c_parse.proofs.reader.Reader.global_list.Given as goal
+
+abbrev pub invariant-loop-turn : goal.invariant-loop-turn
+invariant-loop-turn l = separated_on another (global l.room l.kept l.constant l.ty) (l._turn-end - l._turn) l.list l.self
+    ≡ phrases another (global l.room l.kept l.constant l.ty) l.fn.self

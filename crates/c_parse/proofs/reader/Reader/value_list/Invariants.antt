@@ -1,0 +1,7 @@
+use Rattle.std.proofs.Common.{◌≡◌, ◌-◌}
+use Rattle.c_parse.specs.Parser.{another_value, phrases, separated_on}
+use Rattle.c_parse.specs.ReadExpr.{expr}
+use Rattle.c_parse.proofs.reader.Reader.value_list.Given as goal
+
+abbrev pub invariant-loop-turn : goal.invariant-loop-turn
+invariant-loop-turn l = separated_on another_value (expr l.room 0) (l._turn-end - l._turn) l.list l.self ≡ phrases another_value (expr l.room 0) l.fn.self

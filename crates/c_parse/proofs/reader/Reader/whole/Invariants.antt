@@ -1,0 +1,7 @@
+use Rattle.std.proofs.Common.{◌≡◌, ◌-◌}
+use Rattle.c_parse.specs.ReadStmt.{until_on}
+use Rattle.c_parse.specs.ReadUnit.{top_of, is_end, finished, whole}
+use Rattle.c_parse.proofs.reader.Reader.whole.Given as goal
+
+abbrev pub invariant-loop-turn : goal.invariant-loop-turn
+invariant-loop-turn l = until_on is_end (top_of l.room) finished (l._turn-end - l._turn) l.list l.self ≡ whole l.room l.fn.self
