@@ -132,7 +132,10 @@ fn what_separates_tokens_may_stand_between_them(rt: HostRuntime) -> Result<(), F
 fn texts_that_are_no_tokens(rt: HostRuntime) -> Result<(), Fail> {
     for (text, line) in [
         ("@", "program token Byte at 0\n"),
-        ("int main(void) { return 0; } /*", "program token Comment at 29\n"),
+        (
+            "int main(void) { return 0; } /*",
+            "program token Comment at 29\n",
+        ),
         (
             "int main(void) { return 2147483648; }",
             "program token Number at 24\n",
@@ -148,7 +151,10 @@ fn texts_that_are_no_tokens(rt: HostRuntime) -> Result<(), Fail> {
 fn tokens_that_spell_no_unit(rt: HostRuntime) -> Result<(), Fail> {
     for (text, line) in [
         // The place is the brace where a semicolon is missing.
-        ("int main(void) { return 0 }", "program parse Syntax at 26\n"),
+        (
+            "int main(void) { return 0 }",
+            "program parse Syntax at 26\n",
+        ),
         ("int main(void) { return 0;", "program parse Syntax at 26\n"),
         ("}", "program parse Syntax at 0\n"),
     ] {
@@ -204,7 +210,7 @@ fn heights_and_inputs_have_limits(rt: HostRuntime) -> Result<(), Fail> {
     // A number has height 1, each pair of parentheses and the `return` 1 more.
     for (count, code, line) in [
         (126, 0, "bound 1\n"),
-        (127, 3, "program parse Syntax at 150\n"),
+        (127, 3, "program parse Syntax at 151\n"),
     ] {
         let mut text = nested(alloc, "int main(void) { return ", "(", count, "0")?;
         text.push_str(nested(alloc, "", ")", count, "; }")?.as_str())?;
