@@ -14,7 +14,8 @@ use Rattle.c_tree.specs.SpelledStatements.{Optional, Declarator, Called, without
 use Rattle.c_tree.specs.Symbols.{Lexeme, spot}
 use Rattle.c_parse.specs.Parser.{Parser, sees, expect, optional, type_name, another, phrases}
 use Rattle.c_parse.specs.ReadExpr.{expr}
-use Rattle.c_parse.specs.ReadStmt.{begins_call, begins_call_into, assign, arguments, called, call_into as read_call_into, declarator, declared, declarators, declaration, named}
+use Rattle.c_parse.specs.ReadDecl.{declarator, declared, declarators, declaration}
+use Rattle.c_parse.specs.ReadSimple.{begins_call, begins_call_into, assign, arguments, called, call_into as read_call_into, named}
 use Rattle.c_parse.proofs.AssignSound.{IsStatement, assign_sound}
 use Rattle.c_parse.proofs.CallComplete.{most-body}
 use Rattle.c_parse.proofs.DeclComplete.{most-list}

@@ -112,7 +112,7 @@ impl<'a> Reader<'a> {
     }
 
     /// A declarator of a variable.
-    #[tactic(auto, unfolding(crate::specs::ReadUnit::global, crate::specs::ReadStmt::declarator))]
+    #[tactic(auto, unfolding(crate::specs::ReadUnit::global, crate::specs::ReadDecl::declarator))]
     fn global(&mut self, room: usize, kept: bool, constant: bool, ty: Ty) -> Result<RawTop, Fault>
         requires { room < 999 }
         ensures { Reads (λ x. x) (spec.global room kept constant ty self.old) result self.new }
