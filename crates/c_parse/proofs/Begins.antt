@@ -1,15 +1,13 @@
 -- How expressions begin, and that they take tokens.
-use Rattle.std.proofs.Common.{◌≡◌, ℕ, ◌<◌, Bool, true, false, List, [], ◌∷◌, length, Option, Some, None, refl, sym, ap, ◌∙◌, arith}
+use Rattle.std.proofs.Common.{◌≡◌, ℕ, ◌<◌, Bool, true, false, List, ◌∷◌, length, Option, Some, None, refl, sym, ap, ◌∙◌, arith}
 use Rattle.c_tree.specs.declared.tree.UnOp.{UnOp}
-use Rattle.c_tree.specs.declared.tree.BinOp.{BinOp}
-use Rattle.c_tree.specs.declared.tree.BinOp.TheVariants as op
 use Rattle.c_tree.specs.declared.unit.RawExpr.{RawExpr}
 use Rattle.c_tree.specs.declared.symbol.Symbol.{Symbol}
 use Rattle.c_tree.specs.declared.symbol.Symbol.TheVariants as s
 use Rattle.c_tree.specs.SpelledExpressions.{unary_operator, Expression, tighter, conditional, binary, unary, cast, number, name, element, paren}
 use Rattle.c_tree.specs.Symbols.{Lexeme}
 use Rattle.c_parse.specs.Parser.{first, tail, sees, sees_second, is_type, begins_type}
-use Rattle.c_parse.proofs.Steps.{not_seen, sees-is, sees-yes, sees-no}
+use Rattle.c_parse.proofs.Steps.{not_seen, sees-is, sees-no}
 use Rattle.c_parse.proofs.Types.{type_shorter}
 
 pub expr_shorter : {n : ℕ} {ts rest : List Lexeme} {a : RawExpr} → Expression n ts a rest → length rest < length ts

@@ -1,11 +1,9 @@
 -- An expression that is spelled is read.
-use Rattle.std.proofs.Common.{◌≡◌, ℕ, zero, suc, ◌+◌, ◌-◌, ◌<◌, ◌≤◌, true, false, List, ◌∷◌, Option, Some, None, Ok, refl, sym, ap, subst, ◌∙◌, arith}
+use Rattle.std.proofs.Common.{◌≡◌, ℕ, zero, suc, ◌+◌, ◌-◌, ◌<◌, ◌≤◌, true, false, List, ◌∷◌, Option, Some, Ok, refl, sym, ap, subst, ◌∙◌, arith}
 use Rattle.std.proofs.lemmas.Bool.{le-leb}
 use Rattle.c_tree.specs.declared.tree.Ty.{Ty}
 use Rattle.c_tree.specs.declared.tree.UnOp.{UnOp}
 use Rattle.c_tree.specs.declared.tree.BinOp.{BinOp}
-use Rattle.c_tree.specs.declared.tree.BinOp.TheVariants as op
-use Rattle.c_tree.specs.declared.unit.Spot.{Spot}
 use Rattle.c_tree.specs.declared.unit.RawExpr.{RawExpr}
 use Rattle.c_tree.specs.declared.unit.RawExpr.TheVariants as e
 use Rattle.c_tree.specs.declared.symbol.Symbol.{Symbol}
@@ -13,11 +11,9 @@ use Rattle.c_tree.specs.declared.symbol.Symbol.TheVariants as s
 use Rattle.c_tree.specs.Heights.{height}
 use Rattle.c_tree.specs.SpelledExpressions.{unary_operator, level, TypeName, Expression, tighter, conditional, binary, unary, cast, number, name, element, paren}
 use Rattle.c_tree.specs.Symbols.{Lexeme, spot}
-use Rattle.c_parse.specs.declared.symbol.Next.{Next}
-use Rattle.c_parse.specs.declared.symbol.Next.TheVariants.{Ask, By}
 use Rattle.c_parse.specs.Going.{next, binds}
 use Rattle.c_parse.specs.Lexeme.{constant}
-use Rattle.c_parse.specs.Parser.{Parser, and_then, sees, begins_type}
+use Rattle.c_parse.specs.Parser.{Parser, sees, begins_type}
 use Rattle.c_parse.specs.ReadExpr.{index, named, variable, cast as read_cast, paren as read_paren, opened, parenthesised, unary as read_unary, unary_by, operand_by, operand, operation, conditional as read_conditional, climb, expr}
 use Rattle.c_parse.proofs.Begins.{expr_no_type}
 use Rattle.c_parse.proofs.Follows.{Ends, Quiet, ends-symbol, ends-by, ends-up, next-by, next-ask, quiet_from, quiet_at, quiet_unary}

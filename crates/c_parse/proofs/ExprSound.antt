@@ -1,12 +1,10 @@
 -- An expression that is read is spelled.
-use Rattle.std.proofs.Common.{◌≡◌, ℕ, zero, suc, ◌+◌, ◌-◌, ◌≤◌, true, false, List, [], ◌∷◌, Option, Some, None, refl, ap, subst, arith}
-use Rattle.std.specs.Prelude.{◌==◌, nat_le}
+use Rattle.std.proofs.Common.{◌≡◌, ℕ, zero, suc, ◌+◌, ◌-◌, ◌≤◌, true, List, [], ◌∷◌, Option, Some, None, refl, ap, subst, arith}
+use Rattle.std.specs.Prelude.{nat_le}
 use Rattle.std.proofs.lemmas.Bool.{leb-true, leb-false}
 use Rattle.std.proofs.lemmas.Bool.Decides.{nat_tests}
-use Rattle.c_tree.specs.declared.tree.Ty.{Ty}
 use Rattle.c_tree.specs.declared.tree.UnOp.{UnOp}
 use Rattle.c_tree.specs.declared.tree.BinOp.{BinOp}
-use Rattle.c_tree.specs.declared.unit.Spot.{Spot}
 use Rattle.c_tree.specs.declared.unit.RawExpr.{RawExpr}
 use Rattle.c_tree.specs.declared.unit.RawExpr.TheVariants as e
 use Rattle.c_tree.specs.declared.symbol.Symbol.{Symbol}
@@ -18,7 +16,7 @@ use Rattle.c_parse.specs.declared.symbol.Next.{Next}
 use Rattle.c_parse.specs.declared.symbol.Next.TheVariants.{Stop, Ask, By}
 use Rattle.c_parse.specs.Going.{next_of, next, binds}
 use Rattle.c_parse.specs.Lexeme.{constant}
-use Rattle.c_parse.specs.Parser.{Parser, and_then, first, sees, begins_type, type_name}
+use Rattle.c_parse.specs.Parser.{Parser, sees, begins_type, type_name}
 use Rattle.c_parse.specs.ReadExpr.{index, named, variable, cast as read_cast, paren as read_paren, opened, parenthesised, unary as read_unary, unary_by, operand_by, operand, operation, conditional as read_conditional, onward, climb_by, climb, expr}
 use Rattle.c_parse.proofs.Follows.{strength, Quiet, level-below, strength-below, quiet-strength, next_of-ask, next_of-by}
 use Rattle.c_parse.proofs.Layers.{height-Num, height-Name, height-Elem, height-Un, height-Cast, height-Bin, height-Cond, height-Paren}

@@ -1,6 +1,6 @@
 -- Phrases with commas between them: reading them a turn at a time, and both ways against the rule.
-use Rattle.std.proofs.Common.{◌≡◌, ℕ, zero, suc, ◌-◌, ◌<◌, ◌≤◌, Bool, true, false, cond, List, [], ◌∷◌, ◌++◌, length, Ok, Err, refl, sym, ap, ◌∙◌, arith, append_assoc}
-use Rattle.std.specs.Prelude.{if◌then◌else◌, max}
+use Rattle.std.proofs.Common.{◌≡◌, ℕ, zero, suc, ◌-◌, ◌<◌, ◌≤◌, Bool, true, false, List, [], ◌∷◌, ◌++◌, length, Ok, Err, refl, sym, ap, ◌∙◌, arith, append_assoc}
+use Rattle.std.specs.Prelude.{if◌then◌else◌}
 use Rattle.c_tree.specs.declared.symbol.Symbol.{Symbol}
 use Rattle.c_tree.specs.declared.symbol.Symbol.TheVariants as s
 use Rattle.c_tree.specs.declared.unit.RawExpr.{RawExpr}
@@ -8,7 +8,7 @@ use Rattle.c_tree.specs.Heights.{height, list_height}
 use Rattle.c_tree.specs.SpelledExpressions.{Separated, last, comma}
 use Rattle.c_tree.specs.Symbols.{Lexeme}
 use Rattle.c_parse.specs.declared.fault.Fault.TheVariants.{Syntax}
-use Rattle.c_parse.specs.Parser.{Outcome, Parser, and_then, first, sees, sees_second, expect, another, another_value, separated, separated_on, phrases}
+use Rattle.c_parse.specs.Parser.{Parser, and_then, sees, sees_second, expect, another, another_value, separated, separated_on, phrases}
 use Rattle.c_parse.specs.Same.{same}
 use Rattle.c_parse.proofs.Steps.{Sound, bind, choose, step, then_assoc, then_same, then-pure, sees-yes, sees-no, expect-yes}
 

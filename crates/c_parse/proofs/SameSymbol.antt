@@ -1,12 +1,11 @@
 -- Symbols compare equal where they are equal.
-use Rattle.std.proofs.Common.{◌≡◌, ◌⊎◌, inl, inr, Bool, true, false, List, [], ◌∷◌, refl, ap, sym, subst, ◌∙◌}
+use Rattle.std.proofs.Common.{◌≡◌, inl, inr, Bool, true, false, List, [], ◌∷◌, refl, ap, sym, subst, ◌∙◌}
 use denote.Struct.Field.{Field}
 use denote.Struct.Values.{Values}
 use denote.Enum.Bare.{same_true, true_same}
 use denote.Enum.Compared.{Each, by}
 use denote.Enum.Declared.{Choice}
 use Rattle.c_tree.specs.declared.symbol.Symbol.{Symbol}
-use Rattle.c_tree.specs.declared.symbol.Symbol.TheVariants as s
 use Rattle.c_tree.specs.declared.tree.BinOp.{BinOp}
 use Rattle.c_tree.specs.contracts.symbol.Symbol as of
 use Rattle.c_tree.specs.contracts.tree.BinOp as operator

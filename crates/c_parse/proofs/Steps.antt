@@ -1,5 +1,5 @@
 -- What a step of reading does at a token whose symbol is known, and what a token is that a step has seen.
-use Rattle.std.proofs.Common.{◌≡◌, ◌<◌, Bool, true, false, cond, List, [], ◌∷◌, length, Option, Some, Ok, Err, refl, ap, rules, arith}
+use Rattle.std.proofs.Common.{◌≡◌, ◌<◌, Bool, true, false, cond, List, [], ◌∷◌, length, Option, Some, Ok, Err, refl, ap, arith}
 use Rattle.c_parse.specs.declared.fault.Fault.TheVariants.{Syntax}
 use Rattle.c_tree.specs.declared.symbol.Symbol.{Symbol}
 use Rattle.c_tree.specs.Symbols.{Lexeme}

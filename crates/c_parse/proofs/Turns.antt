@@ -1,5 +1,5 @@
 -- Reading an expression, a height and a turn at a time.
-use Rattle.std.proofs.Common.{◌≡◌, ℕ, zero, suc, ◌-◌, ◌<◌, ◌≤◌, true, false, List, [], ◌∷◌, length, Some, None, Ok, Err, refl, ap, sym, ◌∙◌, arith}
+use Rattle.std.proofs.Common.{◌≡◌, ℕ, zero, suc, ◌-◌, ◌<◌, ◌≤◌, true, false, List, [], ◌∷◌, length, Some, Ok, Err, refl, ap, sym, ◌∙◌, arith}
 use Rattle.std.proofs.lemmas.Bool.{le-leb, lt-leb}
 use Rattle.c_tree.specs.declared.symbol.Symbol.{Symbol}
 use Rattle.c_tree.specs.declared.tree.BinOp.{BinOp}
@@ -8,8 +8,7 @@ use Rattle.c_tree.specs.Heights.{height}
 use Rattle.c_tree.specs.Symbols.{Lexeme}
 use Rattle.c_parse.specs.declared.fault.Fault.{Fault}
 use Rattle.c_parse.specs.declared.fault.Fault.TheVariants.{Depth}
-use Rattle.c_parse.specs.declared.symbol.Next.{Next}
-use Rattle.c_parse.specs.declared.symbol.Next.TheVariants.{Stop, Ask, By}
+use Rattle.c_parse.specs.declared.symbol.Next.TheVariants.{Ask, By}
 use Rattle.c_parse.specs.Going.{next, binds}
 use Rattle.c_parse.specs.Parser.{Outcome, Parser, and_then, first}
 use Rattle.c_parse.specs.ReadExpr.{operand, operation, conditional, climb, expr}

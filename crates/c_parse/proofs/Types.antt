@@ -1,5 +1,5 @@
 -- The name of a type that is spelled is read, and one that is read is spelled.
-use Rattle.std.proofs.Common.{◌≡◌, ◌<◌, Bool, true, false, cond, List, ◌∷◌, length, Option, Some, None, Ok, refl, ap, ◌∙◌, arith}
+use Rattle.std.proofs.Common.{◌≡◌, ◌<◌, Bool, true, false, List, ◌∷◌, length, Option, Some, Ok, refl, ap, ◌∙◌, arith}
 use Rattle.c_tree.specs.declared.tree.Ty.{Ty}
 use Rattle.c_tree.specs.declared.tree.Ty.TheVariants as ty
 use Rattle.c_tree.specs.declared.symbol.Symbol.{Symbol}
@@ -7,8 +7,8 @@ use Rattle.c_tree.specs.declared.symbol.Symbol.TheVariants as s
 use Rattle.c_tree.specs.SpelledExpressions.{TypeName, int, signed, signed_int, unsigned, unsigned_int}
 use Rattle.c_tree.specs.SpelledStatements.{Optional, absent, present}
 use Rattle.c_tree.specs.Symbols.{Lexeme}
-use Rattle.c_parse.specs.Parser.{Parser, Outcome, and_then, first, sees, optional, is_type, begins_type, with_int, type_by, type_name}
-use Rattle.c_parse.proofs.Steps.{Sound, bind, choose, step, split_at, not_seen, expect-yes, optional-yes, optional-no}
+use Rattle.c_parse.specs.Parser.{first, sees, optional, is_type, begins_type, with_int, type_by, type_name}
+use Rattle.c_parse.proofs.Steps.{Sound, bind, step, split_at, not_seen, expect-yes, optional-yes, optional-no}
 
 pub type_shorter : {ts rest : List Lexeme} {to : Ty} → TypeName ts to rest → length rest < length ts
 type_shorter (int h) = omega arith

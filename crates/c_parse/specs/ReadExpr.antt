@@ -1,5 +1,5 @@
 -- Reading an expression from the left.
-use Rattle.std.specs.Prelude.{ℕ, zero, suc, nat_le, if◌then◌else◌, List, Option, Some, None, Ok}
+use Rattle.std.specs.Prelude.{ℕ, zero, suc, nat_le, if◌then◌else◌, Option, Some, None, Ok}
 use Rattle.c_tree.specs.declared.tree.UnOp.{UnOp}
 use Rattle.c_tree.specs.declared.tree.BinOp.{BinOp}
 use Rattle.c_tree.specs.declared.unit.Spot.{Spot}
@@ -9,7 +9,6 @@ use Rattle.c_tree.specs.declared.symbol.Symbol.{Symbol}
 use Rattle.c_tree.specs.declared.symbol.Symbol.TheVariants as s
 use Rattle.c_tree.specs.Heights.{height}
 use Rattle.c_tree.specs.SpelledExpressions.{unary_operator, level}
-use Rattle.c_tree.specs.Symbols.{Lexeme}
 use Rattle.c_parse.specs.declared.symbol.Next.{Next}
 use Rattle.c_parse.specs.declared.symbol.Next.TheVariants.{Stop, Ask, By}
 use Rattle.c_parse.specs.Going.{next, binds}

@@ -67,14 +67,14 @@ fn cast(alloc: Global, at: u32, ty: Ty, a: MeasuredExpr) -> Result<MeasuredExpr,
 }
 
 #[tactic(auto, using(crate::proofs::Layers::height_layers))]
-fn parenthesised(alloc: Global, at: u32, a: MeasuredExpr) -> Result<MeasuredExpr, Fault>
-    requires { a.height < 1000 }
-    ensures low { IfOk result (λ t. t.height ≡ a.height + 1) }
-    ensures reads { Reads (λ t. t.expr) (Ok (RawExpr.Paren at a.expr, [])) result [] }
+fn parenthesised(alloc: Global, at: u32, inner: MeasuredExpr) -> Result<MeasuredExpr, Fault>
+    requires { inner.height < 1000 }
+    ensures low { IfOk result (λ t. t.height ≡ inner.height + 1) }
+    ensures reads { Reads (λ t. t.expr) (Ok (RawExpr.Paren at inner.expr, [])) result [] }
 {
-    let height = a.height + 1;
+    let height = inner.height + 1;
     Ok(MeasuredExpr {
-        expr: RawExpr::Paren(at, Boxed::new(alloc, a.expr)?),
+        expr: RawExpr::Paren(at, Boxed::new(alloc, inner.expr)?),
         height,
     })
 }

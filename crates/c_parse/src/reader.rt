@@ -26,7 +26,7 @@ impl<'a> Model for Reader<'a> {
     ghost use Rattle.std.specs.Prelude.{List, All};
     ghost use Rattle.c_tree.specs.Symbols.{Lexeme, lexemes};
     ghost use Rattle.c_parse.specs.Going as reading;
-ghost use Rattle.c_parse.specs.Lexeme.{IsWithin};
+    ghost use Rattle.c_parse.specs.Lexeme.{IsWithin};
 
     ghost Value = { List Lexeme };
 

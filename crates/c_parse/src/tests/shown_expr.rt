@@ -77,15 +77,11 @@ fn part(out: &mut String, before: &str, at: u32, a: &RawExpr) -> Result<(), Allo
     out.push_str("}")
 }
 
+/// A part after what stands before it.
 #[cycle(expr)]
-fn conditional(out: &mut String, a: &RawExpr, b: &RawExpr, c: &RawExpr) -> Result<(), AllocError> {
-    out.push_str("(")?;
-    expr(out, a)?;
-    out.push_str("?")?;
-    expr(out, b)?;
-    out.push_str(":")?;
-    expr(out, c)?;
-    out.push_str(")")
+fn after(out: &mut String, before: &str, a: &RawExpr) -> Result<(), AllocError> {
+    out.push_str(before)?;
+    expr(out, a)
 }
 
 /// An expression.
@@ -96,20 +92,22 @@ pub fn expr(out: &mut String, a: &RawExpr) -> Result<(), AllocError> {
         RawExpr::Name(x) => spot(out, x),
         RawExpr::Elem(x, i) => {
             spot(out, x)?;
-            out.push_str("[")?;
-            expr(out, i.get())?;
+            after(out, "[", i.get())?;
             out.push_str("]")
         }
         RawExpr::Un(at, op, a) => part(out, unary_sign(*op), *at, a.get()),
         RawExpr::Cast(at, ty, a) => part(out, type_word(*ty), *at, a.get()),
         RawExpr::Bin(op, a, b) => {
-            out.push_str("(")?;
-            expr(out, a.get())?;
-            out.push_str(sign(*op))?;
-            expr(out, b.get())?;
+            after(out, "(", a.get())?;
+            after(out, sign(*op), b.get())?;
             out.push_str(")")
         }
-        RawExpr::Cond(a, b, c) => conditional(out, a.get(), b.get(), c.get()),
+        RawExpr::Cond(a, b, c) => {
+            after(out, "(", a.get())?;
+            after(out, "?", b.get())?;
+            after(out, ":", c.get())?;
+            out.push_str(")")
+        }
         RawExpr::Paren(at, a) => part(out, "paren", *at, a.get()),
     }
 }
