@@ -82,4 +82,3 @@ module _ (room : ℕ) where
   assign_sound ts = bind (IsPhrase Assignment stmt_height (suc room) ts) (IsStatement Plain (suc room) ts) (assignment room ts) _ (assignment_sound ts)
       (λ x u d. step s.Semicolon _ _ (λ v. Assignment ts x v) (λ v. IsStatement Plain (suc room) ts) u d.spells
       (λ c v e k. record { open_if = false; spells = assign e k; low = omega (arith, d.low); shut = λ n. cc }))
-

@@ -95,7 +95,7 @@ module _ (room : ℕ) where
   declarators_sound constant to ts u v o y =
       bind (ArePhrases (Declarator (stmt.Declare constant to)) stmt_height (suc room) v) (IsStatement Item (suc room) ts) (phrases another (declarator room (stmt.Declare constant to)) v) _
       (sound_phrases (Declarator (stmt.Declare constant to)) stmt_height (suc room) another (declarator room (stmt.Declare constant to))
-          (declarator_sound room (stmt.Declare constant to) stmt_height (suc room) (λ x form l. omega (arith, height-Declare constant to x form))) v)
+      (declarator_sound room (stmt.Declare constant to) stmt_height (suc room) (λ x form l. omega (arith, height-Declare constant to x form))) v)
       (λ xs w m. step s.Semicolon _ _ (λ z. Separated (Declarator (stmt.Declare constant to)) v xs z) (λ z. IsStatement Item (suc room) ts) w m.spells
       (λ c z e k. record { open_if = false; spells = declare o y e k; low = omega (arith, most-body xs, m.low); shut = λ n. cc }))
 

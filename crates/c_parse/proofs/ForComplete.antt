@@ -28,7 +28,6 @@ use Rattle.c_parse.proofs.StmtLayers.{held}
 use Rattle.c_parse.proofs.StmtTurns.{initialiser-none, initialiser-some, test-none, test-some, step-none, step-some}
 use Rattle.c_parse.proofs.Types.{type_begins, type_no, type_yes}
 
-
 -- ---- how an assignment begins
 
 abbrev begins_assignment : Option Symbol → Bool

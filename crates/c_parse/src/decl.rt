@@ -145,12 +145,7 @@ impl<'a> Reader<'a> {
     }
 
     #[tactic(auto, unfolding(crate::specs::ReadDecl::declarators))]
-    fn declarators(
-        &mut self,
-        room: usize,
-        constant: bool,
-        ty: Ty,
-    ) -> Result<Items<RawStmt>, Fault>
+    fn declarators(&mut self, room: usize, constant: bool, ty: Ty) -> Result<Items<RawStmt>, Fault>
         requires { room < 999 }
         ensures { Reads (λ x. x) (spec.declarators room constant ty self.old) result self.new }
     {

@@ -42,9 +42,7 @@ impl<'a> Reader<'a> {
     pub fn begins_call_into(&self) -> bool
         ensures { result ≡ spec.begins_call_into self.now }
     {
-        self.sees(Symbol::Name)
-            && self.sees_second(Symbol::Assign)
-            && self.past_two().begins_call()
+        self.sees(Symbol::Name) && self.sees_second(Symbol::Assign) && self.past_two().begins_call()
     }
 
     /// Expressions with commas between them. Each takes a token, so there are enough turns.

@@ -42,12 +42,7 @@ impl<'a> Reader<'a> {
         let spot = self.name()?;
         self.expect(Symbol::Assign)?;
         let a = self.expr(room, 0)?;
-        Ok(RawStmt::Declare(
-            false,
-            ty,
-            spot,
-            RawShape::Scalar(Some(a.expr)),
-        ))
+        Ok(RawStmt::Declare(false, ty, spot, RawShape::Scalar(Some(a.expr))))
     }
 
     #[tactic(auto, unfolding(crate::specs::ReadStmt::setup))]

@@ -77,12 +77,7 @@ impl<'a> Reader<'a> {
     }
 
     #[tactic(auto, using(crate::proofs::Lists::list_turns))]
-    fn outer_list(
-        &mut self,
-        room: usize,
-        constant: bool,
-        ty: Ty,
-    ) -> Result<Items<RawTop>, Fault>
+    fn outer_list(&mut self, room: usize, constant: bool, ty: Ty) -> Result<Items<RawTop>, Fault>
         requires { room < 999 }
         ensures { Reads (λ x. x) (phrases another (spec.outer_declarator room constant ty) self.old) result self.new }
     {
