@@ -14,7 +14,8 @@ use Rattle.c_tree.specs.SpelledStatements.{Assigned, scalar_place, element_place
 use Rattle.c_tree.specs.Symbols.{Lexeme, spot}
 use Rattle.c_parse.specs.Parser.{Parser, and_then, sees, expect}
 use Rattle.c_parse.specs.ReadExpr.{expr}
-use Rattle.c_parse.specs.ReadStmt.{begins_call, begins_call_into, assigned, set, set_by, stepped, assignment, assignment_by, assign, named, plain, plain_by}
+use Rattle.c_parse.specs.ReadSimple.{begins_call, begins_call_into, assigned, set, set_by, stepped, assignment, assignment_by, assign, named}
+use Rattle.c_parse.specs.ReadStmt.{plain, plain_by}
 use Rattle.c_parse.proofs.Begins.{expr_shorter}
 use Rattle.c_parse.proofs.DeclComplete.{complete_index}
 use Rattle.c_parse.proofs.ExprClosed.{expr_closed}

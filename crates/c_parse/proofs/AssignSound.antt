@@ -14,7 +14,7 @@ use Rattle.c_tree.specs.SpelledStatements.{Assigned, scalar_place, element_place
 use Rattle.c_tree.specs.Symbols.{Lexeme, spot}
 use Rattle.c_parse.specs.Parser.{and_then, first, sees, expect}
 use Rattle.c_parse.specs.ReadExpr.{index, expr}
-use Rattle.c_parse.specs.ReadStmt.{assigned, set, set_by, stepped, assignment, assignment_by, assign as read_assign}
+use Rattle.c_parse.specs.ReadSimple.{assigned, set, set_by, stepped, assignment, assignment_by, assign as read_assign}
 use Rattle.c_parse.proofs.DeclSound.{index_sound}
 use Rattle.c_parse.proofs.ExprSound.{Index, brackets}
 use Rattle.c_parse.proofs.ExprClosed.{expr_sound}
@@ -82,4 +82,3 @@ module _ (room : ℕ) where
   assign_sound ts = bind (IsPhrase Assignment stmt_height (suc room) ts) (IsStatement Plain (suc room) ts) (assignment room ts) _ (assignment_sound ts)
       (λ x u d. step s.Semicolon _ _ (λ v. Assignment ts x v) (λ v. IsStatement Plain (suc room) ts) u d.spells
       (λ c v e k. record { open_if = false; spells = assign e k; low = omega (arith, d.low); shut = λ n. cc }))
-

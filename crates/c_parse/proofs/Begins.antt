@@ -85,7 +85,7 @@ other : {X : Type 0} (t : Lexeme) (ts u : List Lexeme) → sees_second s.LeftPar
 other t ts u p same differs = let yes : sees s.LeftParen (t ∷ u) ≡ true = ap (sees s.LeftParen) same ∙ tail_sees s.LeftParen ts p in let never : false ≡ true = sym differs ∙ yes in cc
 
 -- an expression that begins with a name and a `(` leaves all from the `(` on
-pub name_alone : {n : ℕ} {ts rest : List Lexeme} {a : RawExpr} → Expression n ts a rest → sees s.Name ts ≡ true → sees_second s.LeftParen ts ≡ true → rest ≡ tail ts
+name_alone : {n : ℕ} {ts rest : List Lexeme} {a : RawExpr} → Expression n ts a rest → sees s.Name ts ≡ true → sees_second s.LeftParen ts ≡ true → rest ≡ tail ts
 name_alone (tighter d) x p = name_alone d x p
 name_alone (conditional {q = q} {ts = ts} {u = u} d i e c f) x p = other q ts u p (name_alone d x p) (sees-no s.LeftParen s.Question q u i refl)
 name_alone (binary {o = o} {t = t} {ts = ts} {u = u} d i e) x p = other t ts u p (name_alone d x p) (sees-no s.LeftParen (s.Operator o) t u i refl)

@@ -17,7 +17,9 @@ use Rattle.c_tree.specs.SpelledExpressions.{Separated, last, comma, TypeName, Ex
 use Rattle.c_tree.specs.SpelledStatements.{Optional, absent, present, Size, implied, sized, Values, values, trailing, Declarator, scalar, initialised, array, filled, Called, without_arguments, with_arguments}
 use Rattle.c_tree.specs.Symbols.{Lexeme, spot}
 use Rattle.c_parse.specs.Parser.{Parser, sees, expect, optional, type_name, begins_type, another, phrases}
-use Rattle.c_parse.specs.ReadStmt.{begins_call, begins_call_into, begins_declaration, arguments, called, call_into, declarator, declared, declarators, declaration, named, plain}
+use Rattle.c_parse.specs.ReadDecl.{begins_declaration, declarator, declared, declarators, declaration}
+use Rattle.c_parse.specs.ReadSimple.{begins_call, begins_call_into, arguments, called, call_into, named}
+use Rattle.c_parse.specs.ReadStmt.{plain}
 use Rattle.c_parse.proofs.Begins.{begins_expr, expr_no, expr_shorter}
 use Rattle.c_parse.proofs.AssignComplete.{plain-is}
 use Rattle.c_parse.proofs.DeclComplete.{expression_shorter, another_goes, another-stop, complete_list, complete_declarator}

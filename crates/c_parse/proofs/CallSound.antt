@@ -14,7 +14,8 @@ use Rattle.c_tree.specs.SpelledStatements.{Optional, Declarator, Called, without
 use Rattle.c_tree.specs.Symbols.{Lexeme, spot}
 use Rattle.c_parse.specs.Parser.{Parser, sees, expect, optional, type_name, another, phrases}
 use Rattle.c_parse.specs.ReadExpr.{expr}
-use Rattle.c_parse.specs.ReadStmt.{begins_call, begins_call_into, assign, arguments, called, call_into as read_call_into, declarator, declared, declarators, declaration, named}
+use Rattle.c_parse.specs.ReadDecl.{declarator, declared, declarators, declaration}
+use Rattle.c_parse.specs.ReadSimple.{begins_call, begins_call_into, assign, arguments, called, call_into as read_call_into, named}
 use Rattle.c_parse.proofs.AssignSound.{IsStatement, assign_sound}
 use Rattle.c_parse.proofs.CallComplete.{most-body}
 use Rattle.c_parse.proofs.DeclComplete.{most-list}
@@ -94,7 +95,7 @@ module _ (room : ℕ) where
   declarators_sound constant to ts u v o y =
       bind (ArePhrases (Declarator (stmt.Declare constant to)) stmt_height (suc room) v) (IsStatement Item (suc room) ts) (phrases another (declarator room (stmt.Declare constant to)) v) _
       (sound_phrases (Declarator (stmt.Declare constant to)) stmt_height (suc room) another (declarator room (stmt.Declare constant to))
-          (declarator_sound room (stmt.Declare constant to) stmt_height (suc room) (λ x form l. omega (arith, height-Declare constant to x form))) v)
+      (declarator_sound room (stmt.Declare constant to) stmt_height (suc room) (λ x form l. omega (arith, height-Declare constant to x form))) v)
       (λ xs w m. step s.Semicolon _ _ (λ z. Separated (Declarator (stmt.Declare constant to)) v xs z) (λ z. IsStatement Item (suc room) ts) w m.spells
       (λ c z e k. record { open_if = false; spells = declare o y e k; low = omega (arith, most-body xs, m.low); shut = λ n. cc }))
 

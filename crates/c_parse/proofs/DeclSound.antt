@@ -15,7 +15,7 @@ use Rattle.c_tree.specs.SpelledStatements.{Optional, absent, present, Size, impl
 use Rattle.c_tree.specs.Symbols.{Lexeme, spot}
 use Rattle.c_parse.specs.Parser.{sees, sees_second, expect, optional, another_value, phrases}
 use Rattle.c_parse.specs.ReadExpr.{index, expr}
-use Rattle.c_parse.specs.ReadStmt.{size, values as read_values, filled as read_filled, initialised as read_initialised, shaped, declarator}
+use Rattle.c_parse.specs.ReadDecl.{size, values as read_values, filled as read_filled, initialised as read_initialised, shaped, declarator}
 use Rattle.c_parse.proofs.DeclComplete.{most-list}
 use Rattle.c_parse.proofs.ExprClosed.{expr_sound}
 use Rattle.c_parse.proofs.ExprSound.{Index, brackets, IsIndex, index_read}

@@ -16,7 +16,8 @@ use Rattle.c_tree.specs.SpelledStatements.{Assigned, scalar_place, element_place
 use Rattle.c_tree.specs.Symbols.{Lexeme, spot}
 use Rattle.c_parse.specs.Parser.{Parser, and_then, first, sees, expect, type_name, begins_type}
 use Rattle.c_parse.specs.ReadExpr.{expr}
-use Rattle.c_parse.specs.ReadStmt.{assignment, answer, returned, condition, counter, setup, initialiser, test, step, loop_bound}
+use Rattle.c_parse.specs.ReadSimple.{assignment, answer, returned}
+use Rattle.c_parse.specs.ReadStmt.{condition, counter, setup, initialiser, test, step, loop_bound}
 use Rattle.c_parse.proofs.Begins.{expr_no}
 use Rattle.c_parse.proofs.AssignComplete.{complete_assignment}
 use Rattle.c_parse.proofs.ExprClosed.{expr_closed}
@@ -26,7 +27,6 @@ use Rattle.c_parse.proofs.StmtFollows.{Closes, closes-by}
 use Rattle.c_parse.proofs.StmtLayers.{held}
 use Rattle.c_parse.proofs.StmtTurns.{initialiser-none, initialiser-some, test-none, test-some, step-none, step-some}
 use Rattle.c_parse.proofs.Types.{type_begins, type_no, type_yes}
-
 
 -- ---- how an assignment begins
 

@@ -14,7 +14,8 @@ use Rattle.c_tree.specs.SpelledStatements.{Assignment, LoopBound, unbounded, bou
 use Rattle.c_tree.specs.Symbols.{Lexeme, spot}
 use Rattle.c_parse.specs.Parser.{sees, expect, type_name, begins_type}
 use Rattle.c_parse.specs.ReadExpr.{expr}
-use Rattle.c_parse.specs.ReadStmt.{assignment, answer, returned, condition as read_condition, counter, setup, initialiser, test, step as read_step, loop_bound}
+use Rattle.c_parse.specs.ReadSimple.{assignment, answer, returned}
+use Rattle.c_parse.specs.ReadStmt.{condition as read_condition, counter, setup, initialiser, test, step as read_step, loop_bound}
 use Rattle.c_parse.proofs.AssignSound.{IsStatement, assignment_sound}
 use Rattle.c_parse.proofs.ExprClosed.{expr_sound}
 use Rattle.c_parse.proofs.Layers.{height-Num, height-Declare, height-Return}

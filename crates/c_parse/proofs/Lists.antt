@@ -63,10 +63,6 @@ pub another-yes : (t : Lexeme) (ts : List Lexeme) → t.symbol ≡ s.Comma → a
 unfolding another
 another-yes t ts h = sees-yes s.Comma t ts h
 
-pub another-no : (f : Symbol) (t : Lexeme) (ts : List Lexeme) → t.symbol ≡ f → same f s.Comma ≡ false → another (t ∷ ts) ≡ false
-unfolding another
-another-no f t ts h differs = sees-no s.Comma f t ts h differs
-
 second-is : (m : Symbol) (t : Lexeme) (ts : List Lexeme) → sees_second m (t ∷ ts) ≡ sees m ts
 unfolding sees sees_second
 second-is m t ts = refl
@@ -164,7 +160,3 @@ module _ {A : Type 0} (Phrase : List Lexeme → A → List Lexeme → Type 0) (g
 pub all_low : (j : ℕ) (list : List RawExpr) → list_height list ≤ j → Every (λ a. height a ≤ j) list
 all_low j [] h = tt
 all_low j (a ∷ rest) h = (omega arith, all_low j rest (omega arith))
-
-pub list_low : (j : ℕ) (list : List RawExpr) → Every (λ a. height a ≤ j) list → list_height list ≤ j
-list_low j [] h = omega arith
-list_low j (a ∷ rest) h = omega (arith, h.0, list_low j rest h.1)

@@ -10,7 +10,8 @@ use Rattle.c_tree.specs.Heights.{height, body_height}
 use Rattle.c_tree.specs.SpelledStatements.{LoopBound, Initialiser, Condition, Step, Plain, Body, Statement, empty, break, continue, if_alone, if_else, while_loop, do_loop, for_loop}
 use Rattle.c_tree.specs.Symbols.{Lexeme}
 use Rattle.c_parse.specs.Parser.{Parser, and_then, first, sees, expect}
-use Rattle.c_parse.specs.ReadStmt.{empty as read_empty, broken, continued, condition, initialiser, test, step as read_step, loop_bound, other, choice, while_loop as read_while, do_loop as read_do, for_loop as read_for, loop_by, looped, plain_by, plain}
+use Rattle.c_parse.specs.ReadSimple.{empty as read_empty, broken, continued}
+use Rattle.c_parse.specs.ReadStmt.{condition, initialiser, test, step as read_step, loop_bound, other, choice, while_loop as read_while, do_loop as read_do, for_loop as read_for, loop_by, looped, plain_by, plain}
 use Rattle.c_parse.proofs.AssignSound.{IsStatement, assign_sound}
 use Rattle.c_parse.proofs.CallSound.{named_sound}
 use Rattle.c_parse.proofs.ForSound.{Guard, guard_of, condition_sound, returned_sound, initialiser_sound, test_sound, step_sound, bound_sound}

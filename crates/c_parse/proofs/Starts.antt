@@ -13,7 +13,7 @@ use Rattle.c_tree.specs.SpelledExpressions.{Separated, TypeName, int, signed, si
 use Rattle.c_tree.specs.SpelledStatements.{Optional, absent, present, Assigned, scalar_place, element_place, Assignment, plain_assignment, compound_assignment, step_after, step_before, Called, without_arguments, with_arguments, LoopBound, unbounded, bounded, Initialiser, no_initialiser, assigning, declaring, Condition, no_condition, condition, Step, no_step, step, Sort, Plain, Item, Statement, empty, assign, call, call_into, break, continue, return_nothing, return_value, if_alone, if_else, while_loop, do_loop, for_loop, compound, body, group, declare, declare_call, item, Statements, none, more}
 use Rattle.c_tree.specs.Symbols.{Lexeme}
 use Rattle.c_parse.specs.Parser.{first, sees, begins_type}
-use Rattle.c_parse.specs.ReadStmt.{begins_declaration}
+use Rattle.c_parse.specs.ReadDecl.{begins_declaration}
 use Rattle.c_parse.proofs.AssignComplete.{assignment_shorter}
 use Rattle.c_parse.proofs.CallComplete.{optional_shorter, called_shorter, declarator_shorter}
 use Rattle.c_parse.proofs.Begins.{expr_shorter}

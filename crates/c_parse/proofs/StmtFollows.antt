@@ -7,7 +7,7 @@ use Rattle.c_tree.specs.declared.symbol.Symbol.TheVariants as s
 use Rattle.c_tree.specs.SpelledExpressions.{Expression}
 use Rattle.c_tree.specs.Symbols.{Lexeme}
 use Rattle.c_parse.specs.Parser.{first, tail, sees, sees_second}
-use Rattle.c_parse.specs.ReadStmt.{begins_call, begins_call_into}
+use Rattle.c_parse.specs.ReadSimple.{begins_call, begins_call_into}
 use Rattle.c_parse.proofs.Begins.{no_call}
 use Rattle.c_parse.proofs.Steps.{not_seen, sees-yes, sees-no}
 

@@ -7,7 +7,8 @@ use Rattle.c_tree.specs.Heights.{body_height}
 use Rattle.c_tree.specs.SpelledStatements.{Sort, Plain, Body, Item, Statement, compound, body, group, item, Statements, none, more}
 use Rattle.c_tree.specs.Symbols.{Lexeme}
 use Rattle.c_parse.specs.Parser.{Parser, sees, expect}
-use Rattle.c_parse.specs.ReadStmt.{until, closed, block, as_body, as_item, begins_declaration, declaration, statement}
+use Rattle.c_parse.specs.ReadDecl.{begins_declaration, declaration}
+use Rattle.c_parse.specs.ReadStmt.{until, closed, block, as_body, as_item, statement}
 use Rattle.c_parse.proofs.AssignSound.{IsStatement}
 use Rattle.c_parse.proofs.CallSound.{declaration_sound}
 use Rattle.c_parse.proofs.Layers.{height-Group, body_height-append}

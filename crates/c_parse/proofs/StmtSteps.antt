@@ -11,7 +11,9 @@ use Rattle.c_tree.specs.Heights.{stmt_height, body_height}
 use Rattle.c_tree.specs.SpelledStatements.{LoopBound, unbounded, bounded, Plain, Body, Item, Statement}
 use Rattle.c_tree.specs.Symbols.{Lexeme, spot}
 use Rattle.c_parse.specs.Parser.{Parser, and_then, first, sees, expect}
-use Rattle.c_parse.specs.ReadStmt.{until, empty, broken, continued, condition, initialiser, test, step, loop_bound, other, choice, while_loop, do_loop, for_loop, loop_by, looped, plain, plain_by, closed, block, as_body, as_item, begins_declaration, declaration}
+use Rattle.c_parse.specs.ReadDecl.{begins_declaration, declaration}
+use Rattle.c_parse.specs.ReadSimple.{empty, broken, continued}
+use Rattle.c_parse.specs.ReadStmt.{until, condition, initialiser, test, step, loop_bound, other, choice, while_loop, do_loop, for_loop, loop_by, looped, plain, plain_by, closed, block, as_body, as_item}
 use Rattle.c_parse.proofs.AssignComplete.{plain-is}
 use Rattle.c_parse.proofs.ForComplete.{bound_read}
 use Rattle.c_parse.proofs.Steps.{sees-some, sees-yes, sees-no, expect-yes}

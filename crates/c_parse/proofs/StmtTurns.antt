@@ -9,7 +9,8 @@ use Rattle.c_tree.specs.Symbols.{Lexeme}
 use Rattle.c_parse.specs.declared.fault.Fault.TheVariants.{Depth}
 use Rattle.c_parse.specs.Parser.{and_then, first, head, tail, sees, sees_second, name}
 use Rattle.c_parse.specs.ReadExpr.{index, expr}
-use Rattle.c_parse.specs.ReadStmt.{assigned, assignment, setup, initialiser, test, one_at, step, plain, as_body, as_item, statement}
+use Rattle.c_parse.specs.ReadSimple.{assigned, assignment, one_at}
+use Rattle.c_parse.specs.ReadStmt.{setup, initialiser, test, step, plain, as_body, as_item, statement}
 
 pub first-some : (ts : List Lexeme) (m : Symbol) → first ts ≡ Some m → 0 < length ts
 first-some [] m h = cc

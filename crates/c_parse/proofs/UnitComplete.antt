@@ -17,7 +17,9 @@ use Rattle.c_tree.specs.Spelling.{OuterDeclarator, outer_scalar, outer_array, Re
 use Rattle.c_tree.specs.Symbols.{Lexeme, spot}
 use Rattle.c_parse.specs.Parser.{Parser, and_then, first, sees, expect, optional, type_name, is_type, begins_type, another, phrases}
 use Rattle.c_parse.specs.ReadExpr.{index, expr}
-use Rattle.c_parse.specs.ReadStmt.{begins_call, until, declarator, block, statement}
+use Rattle.c_parse.specs.ReadDecl.{declarator}
+use Rattle.c_parse.specs.ReadSimple.{begins_call}
+use Rattle.c_parse.specs.ReadStmt.{until, block, statement}
 use Rattle.c_parse.specs.ReadUnit.{param as read_param, params as read_params, outer_declarator, outers, global as read_global, globals, function as read_function, typed as read_typed, own, top_of}
 use Rattle.c_parse.specs.Same.{same}
 use Rattle.c_parse.proofs.CallComplete.{declarator_shorter, declarators_no, declarators_no_call, complete_declarators}

@@ -14,7 +14,9 @@ use Rattle.c_tree.specs.Spelling.{OuterDeclarator, outer_scalar, outer_array, Re
 use Rattle.c_tree.specs.Symbols.{Lexeme, spot}
 use Rattle.c_parse.specs.Parser.{and_then, sees, expect, optional, type_name, another, phrases}
 use Rattle.c_parse.specs.ReadExpr.{index, expr}
-use Rattle.c_parse.specs.ReadStmt.{begins_call, until, declarator, block, statement}
+use Rattle.c_parse.specs.ReadDecl.{declarator}
+use Rattle.c_parse.specs.ReadSimple.{begins_call}
+use Rattle.c_parse.specs.ReadStmt.{until, block, statement}
 use Rattle.c_parse.specs.ReadUnit.{param as read_param, params as read_params, outer_declarator, outers, global as read_global, globals, function as read_function, typed as read_typed, own, top_of, is_end, finished, whole}
 use Rattle.c_parse.proofs.DeclSound.{index_sound, declarator_sound}
 use Rattle.c_parse.proofs.ExprSound.{Index, brackets}

@@ -4,6 +4,8 @@ pub mod Parser
 pub mod Reads
 pub mod Going
 pub mod ReadExpr
+pub mod ReadSimple
+pub mod ReadDecl
 pub mod ReadStmt
 pub mod ReadUnit
 pub mod Answers

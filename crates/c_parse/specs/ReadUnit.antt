@@ -10,7 +10,9 @@ use Rattle.c_tree.specs.SpelledStatements.{Item}
 use Rattle.c_tree.specs.Symbols.{Lexeme}
 use Rattle.c_parse.specs.Parser.{Parser, and_then, ◌>>=◌, ◌>>◌, pure, refuse, sees, expect, name, optional, type_name, another, phrases}
 use Rattle.c_parse.specs.ReadExpr.{index, expr}
-use Rattle.c_parse.specs.ReadStmt.{begins_call, until, declarator, block, statement}
+use Rattle.c_parse.specs.ReadDecl.{declarator}
+use Rattle.c_parse.specs.ReadSimple.{begins_call}
+use Rattle.c_parse.specs.ReadStmt.{until, block, statement}
 
 unfoldable pub param : Parser RawParam
 param = do

@@ -3,11 +3,13 @@
 //! `parse` reads the tree that the tokens of a text spell; the grammar stands in `c_tree`, apart from the reader.
 #![tactic(auto)]
 
+mod decl;
 mod expr;
 mod fault;
 mod measured;
 mod parsing;
 mod reader;
+mod simple;
 mod stmt;
 mod symbol;
 mod unit;

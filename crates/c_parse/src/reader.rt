@@ -72,7 +72,7 @@ impl<'a> Reader<'a> {
 
     /// What the token after the next one is.
     #[tactic(auto, using(crate::proofs::Tokens::front), unfolding(c_tree::specs::Symbols::lexeme))]
-    pub fn peek_second(&self) -> Option<Symbol>
+    fn peek_second(&self) -> Option<Symbol>
         ensures { result ≡ spec.first (spec.tail self.now) }
     {
         match self.rest {

@@ -77,12 +77,7 @@ impl<'a> Reader<'a> {
     }
 
     #[tactic(auto, using(crate::proofs::Lists::list_turns))]
-    fn outer_list(
-        &mut self,
-        room: usize,
-        constant: bool,
-        ty: Ty,
-    ) -> Result<Items<RawTop>, Fault>
+    fn outer_list(&mut self, room: usize, constant: bool, ty: Ty) -> Result<Items<RawTop>, Fault>
         requires { room < 999 }
         ensures { Reads (λ x. x) (phrases another (spec.outer_declarator room constant ty) self.old) result self.new }
     {
@@ -112,7 +107,7 @@ impl<'a> Reader<'a> {
     }
 
     /// A declarator of a variable.
-    #[tactic(auto, unfolding(crate::specs::ReadUnit::global, crate::specs::ReadStmt::declarator))]
+    #[tactic(auto, unfolding(crate::specs::ReadUnit::global, crate::specs::ReadDecl::declarator))]
     fn global(&mut self, room: usize, kept: bool, constant: bool, ty: Ty) -> Result<RawTop, Fault>
         requires { room < 999 }
         ensures { Reads (λ x. x) (spec.global room kept constant ty self.old) result self.new }

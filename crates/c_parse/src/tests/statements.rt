@@ -99,10 +99,7 @@ const TREES: [(&str, &str); 59] = [
     // Loops, with and without a bound.
     ("while (x) ;", "while@10 x@17{;}"),
     ("#3 while (x) { }", "#3@10 while@13 x@20{}"),
-    (
-        "do x = 1; while (x < 3);",
-        "do@10 {x@13=1@17;}(x@27<3@31);",
-    ),
+    ("do x = 1; while (x < 3);", "do@10 {x@13=1@17;}(x@27<3@31);"),
     ("#4 do { } while (1);", "#4@10 do@13 {}1@27;"),
     ("do ; while (1); ;", "do@10 {;}1@22;;"),
     ("for (;;) ;", "for@10 ; 1@16; {;}"),
@@ -123,7 +120,10 @@ const TREES: [(&str, &str); 59] = [
         "for (a[0] += 1; x; ) { int y; }",
         "for@10 a@15[0@17]+=1@23; x@26; {int y@37;}",
     ),
-    ("for (--x; x; x--) ;", "for@10 x@17-=1@15; x@20; x@23-=1@24{;}"),
+    (
+        "for (--x; x; x--) ;",
+        "for@10 x@17-=1@15; x@20; x@23-=1@24{;}",
+    ),
 ];
 
 /// The compound assignments.

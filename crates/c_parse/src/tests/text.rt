@@ -72,10 +72,7 @@ fn push(tokens: &mut Vec<Token>, text: &[u8], from: usize, to: usize) -> Result<
 
 /// A mark that is a token wherever it stands.
 fn is_mark(byte: u8) -> bool {
-    matches!(
-        byte,
-        b'(' | b')' | b'[' | b']' | b'{' | b'}' | b',' | b';'
-    )
+    matches!(byte, b'(' | b')' | b'[' | b']' | b'{' | b'}' | b',' | b';')
 }
 
 /// A byte of an operator; those that follow one another are one token.

@@ -45,10 +45,7 @@ const TREES: [(&str, &str); 22] = [
         "int x; int f() { } int y;",
         "25: int x@4;int f@11(){}int y@23;",
     ),
-    (
-        "void f() { } void g() { }",
-        "25: void f@5(){}void g@18(){}",
-    ),
+    ("void f() { } void g() { }", "25: void f@5(){}void g@18(){}"),
     (
         "extern int x; static int y = 1; int f() { f(); }",
         "48: extern int x@11;static int y@25=1@29;int f@36(){f@42();}",
@@ -117,6 +114,14 @@ const LONG: [((&str, &str, &str, &str, &str), usize); 4] = [
     (("", "int x; ", "", "", "int"), 1 << 17),
 ];
 
+/// Pieces of a text of about a mebibyte that spells a unit, and how often the nested one stands.
+const LEGAL: [((&str, &str, &str, &str, &str), usize); 4] = [
+    (("", "int x; ", "", "", ""), 1 << 17),
+    (("int f() { ", "x = x + 1; ", "", "", "}"), 3 << 15),
+    (("int f() { int x", ", x", "", "", "; }"), 1 << 18),
+    (("int a[] = {1", ", 1", "", "", ",};"), 1 << 18),
+];
+
 #[test]
 fn trees_of_units(rt: HostRuntime) -> Result<(), Fail> {
     let alloc = rt.alloc();
@@ -169,6 +174,16 @@ fn long_units(rt: HostRuntime) -> Result<(), Fail> {
                 Err(ParseFault::Syntax { .. })
             )
         );
+    }
+    Ok(())
+}
+
+#[test]
+fn legal_units(rt: HostRuntime) -> Result<(), Fail> {
+    let alloc = rt.alloc();
+    for (pieces, count) in LEGAL {
+        let long = nested(alloc, pieces, count)?;
+        assert!(rt; parsed(alloc, long.as_bytes()).is_ok());
     }
     Ok(())
 }

@@ -1,0 +1,186 @@
+//! Declarations (C11 6.7). `room` is the greatest height of an expression.
+
+ghost use Rattle.std.specs.Prelude.{◌≡◌, ◌<◌};
+ghost use Rattle.c_parse.specs.Parser.{another, another_value, phrases};
+ghost use Rattle.c_parse.specs.ReadDecl as spec;
+ghost use Rattle.c_parse.specs.ReadExpr.{expr};
+ghost use Rattle.c_parse.specs.ReadSimple as simple;
+ghost use Rattle.c_parse.specs.Reads.{Reads};
+
+use crate::fault::Fault;
+use crate::reader::Reader;
+use c_tree::{RawExpr, RawShape, RawStmt, RawTarget, Symbol, Ty};
+use sqlite_items::Items;
+
+impl<'a> Reader<'a> {
+    #[tactic(auto, unfolding(crate::specs::ReadDecl::begins_declaration))]
+    pub fn begins_declaration(&self) -> bool
+        ensures { result ≡ spec.begins_declaration self.now }
+    {
+        self.sees(Symbol::Const) || self.begins_type()
+    }
+
+    /// The same before a comma and a `}` too.
+    #[tactic(auto, using(crate::proofs::Lists::list_turns))]
+    fn value_list(&mut self, room: usize) -> Result<Items<RawExpr>, Fault>
+        requires { room < 999 }
+        ensures { Reads (λ x. x) (phrases another_value (expr room 0) self.old) result self.new }
+    {
+        let mut list = Items::new(self.alloc());
+        for _turn in 0..self.left() {
+            let a = self.expr(room, 0)?;
+            list.push(a.expr)?;
+            if !self.another_value() {
+                return Ok(list);
+            }
+            self.expect(Symbol::Comma)?;
+        }
+        Err(self.refuse())
+    }
+
+    /// The length of an array, which may be missing.
+    #[tactic(auto, unfolding(crate::specs::ReadDecl::size))]
+    fn size(&mut self, room: usize) -> Result<Option<RawExpr>, Fault>
+        requires { room < 999 }
+        ensures { Reads (λ x. x) (spec.size room self.old) result self.new }
+    {
+        if self.sees_second(Symbol::RightBracket) {
+            self.expect(Symbol::LeftBracket)?;
+            self.expect(Symbol::RightBracket)?;
+            return Ok(None);
+        }
+        let a = self.index(room)?;
+        Ok(Some(a.expr))
+    }
+
+    /// The list of an array.
+    #[tactic(auto, unfolding(crate::specs::ReadDecl::values))]
+    fn values(&mut self, room: usize) -> Result<Items<RawExpr>, Fault>
+        requires { room < 999 }
+        ensures { Reads (λ x. x) (spec.values room self.old) result self.new }
+    {
+        self.expect(Symbol::LeftBrace)?;
+        let list = self.value_list(room)?;
+        self.optional(Symbol::Comma);
+        self.expect(Symbol::RightBrace)?;
+        Ok(list)
+    }
+
+    /// The list of an array, if there is one.
+    #[tactic(auto, unfolding(crate::specs::ReadDecl::filled))]
+    fn filled(&mut self, room: usize) -> Result<Option<Items<RawExpr>>, Fault>
+        requires { room < 999 }
+        ensures { Reads (λ x. x) (spec.filled room self.old) result self.new }
+    {
+        if !self.sees(Symbol::Assign) {
+            return Ok(None);
+        }
+        self.expect(Symbol::Assign)?;
+        let list = self.values(room)?;
+        Ok(Some(list))
+    }
+
+    /// The initialiser of a scalar, if there is one.
+    #[tactic(auto, unfolding(crate::specs::ReadDecl::initialised))]
+    fn initialised(&mut self, room: usize) -> Result<Option<RawExpr>, Fault>
+        requires { room < 999 }
+        ensures { Reads (λ x. x) (spec.initialised room self.old) result self.new }
+    {
+        if !self.sees(Symbol::Assign) {
+            return Ok(None);
+        }
+        self.expect(Symbol::Assign)?;
+        let a = self.expr(room, 0)?;
+        Ok(Some(a.expr))
+    }
+
+    /// What follows the name of a declarator.
+    #[tactic(auto, unfolding(crate::specs::ReadDecl::shaped))]
+    pub fn shaped(&mut self, room: usize) -> Result<RawShape, Fault>
+        requires { room < 999 }
+        ensures { Reads (λ x. x) (spec.shaped room self.old) result self.new }
+    {
+        if self.sees(Symbol::LeftBracket) {
+            let size = self.size(room)?;
+            let list = self.filled(room)?;
+            Ok(RawShape::Array(size, list))
+        } else {
+            let value = self.initialised(room)?;
+            Ok(RawShape::Scalar(value))
+        }
+    }
+
+    /// A declarator of a local variable.
+    #[tactic(auto, unfolding(crate::specs::ReadDecl::declared, crate::specs::ReadDecl::declarator))]
+    fn declared(&mut self, room: usize, constant: bool, ty: Ty) -> Result<RawStmt, Fault>
+        requires { room < 999 }
+        ensures { Reads (λ x. x) (spec.declared room constant ty self.old) result self.new }
+    {
+        let spot = self.name()?;
+        let shape = self.shaped(room)?;
+        Ok(RawStmt::Declare(constant, ty, spot, shape))
+    }
+
+    /// Declarators with commas between them. Each takes a token, so there are enough turns.
+    #[tactic(auto, using(crate::proofs::Lists::list_turns))]
+    fn declared_list(
+        &mut self,
+        room: usize,
+        constant: bool,
+        ty: Ty,
+    ) -> Result<Items<RawStmt>, Fault>
+        requires { room < 999 }
+        ensures { Reads (λ x. x) (phrases another (spec.declared room constant ty) self.old) result self.new }
+    {
+        let mut list = Items::new(self.alloc());
+        for _turn in 0..self.left() {
+            let one = self.declared(room, constant, ty)?;
+            list.push(one)?;
+            if !self.another() {
+                return Ok(list);
+            }
+            self.expect(Symbol::Comma)?;
+        }
+        Err(self.refuse())
+    }
+
+    #[tactic(auto, unfolding(crate::specs::ReadDecl::declarators))]
+    fn declarators(&mut self, room: usize, constant: bool, ty: Ty) -> Result<Items<RawStmt>, Fault>
+        requires { room < 999 }
+        ensures { Reads (λ x. x) (spec.declarators room constant ty self.old) result self.new }
+    {
+        let list = self.declared_list(room, constant, ty)?;
+        self.expect(Symbol::Semicolon)?;
+        Ok(list)
+    }
+
+    /// A call whose result is that of a declaration.
+    #[tactic(auto, unfolding(crate::specs::ReadSimple::call_into))]
+    fn declared_call(
+        &mut self,
+        room: usize,
+        constant: bool,
+        ty: Ty,
+    ) -> Result<Items<RawStmt>, Fault>
+        requires { room < 999 }
+        ensures { Reads (λ x. x) (simple.call_into room (RawTarget.Declare constant ty) self.old) result self.new }
+    {
+        let spot = self.name()?;
+        self.expect(Symbol::Assign)?;
+        self.called(room, RawTarget::Declare(constant, ty, spot))
+    }
+
+    #[tactic(auto, unfolding(crate::specs::ReadDecl::declaration))]
+    pub fn declaration(&mut self, room: usize) -> Result<Items<RawStmt>, Fault>
+        requires { room < 999 }
+        ensures { Reads (λ x. x) (spec.declaration room self.old) result self.new }
+    {
+        let constant = self.optional(Symbol::Const);
+        let ty = self.type_name()?;
+        if self.begins_call_into() {
+            self.declared_call(room, constant, ty)
+        } else {
+            self.declarators(room, constant, ty)
+        }
+    }
+}

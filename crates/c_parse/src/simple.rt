@@ -1,0 +1,248 @@
+//! Calls, assignments and jumps (C11 6.5.2.2, 6.5.16, 6.8.6). `room` is the greatest height of an expression.
+
+ghost use Rattle.std.specs.Prelude.{◌≡◌, ◌<◌, [], ◌∷◌, length, Ok};
+ghost use Rattle.c_parse.specs.Parser.{another, phrases};
+ghost use Rattle.c_parse.specs.ReadExpr.{expr};
+ghost use Rattle.c_parse.specs.ReadSimple as spec;
+ghost use Rattle.c_parse.specs.Reads.{Reads};
+
+use crate::fault::Fault;
+use crate::reader::Reader;
+use c_tree::{BinOp, RawExpr, RawPlace, RawStmt, RawTarget, Symbol, Ty};
+use sqlite_items::Items;
+use std::alloc::Global;
+
+/// The list of this one statement.
+pub fn only(alloc: Global, stmt: RawStmt) -> Result<Items<RawStmt>, Fault>
+    ensures { Reads (λ x. x) (Ok (stmt ∷ [], [])) result [] }
+{
+    let mut list = Items::new(alloc);
+    list.push(stmt)?;
+    Ok(list)
+}
+
+/// The 1 of `++` and `--`, and of a missing condition.
+pub fn one(at: u32) -> RawExpr
+    ensures { result ≡ spec.one_at at }
+{
+    RawExpr::Num(at, Ty::Int, 1)
+}
+
+impl<'a> Reader<'a> {
+    /// Whether a call comes next.
+    #[tactic(auto, unfolding(crate::specs::ReadSimple::begins_call))]
+    pub fn begins_call(&self) -> bool
+        ensures { result ≡ spec.begins_call self.now }
+    {
+        self.sees(Symbol::Name) && self.sees_second(Symbol::LeftParen)
+    }
+
+    /// Whether a name comes next to which the result of a call is assigned.
+    #[tactic(auto, using(crate::proofs::StmtTurns::next_symbol), unfolding(crate::specs::ReadSimple::begins_call_into))]
+    pub fn begins_call_into(&self) -> bool
+        ensures { result ≡ spec.begins_call_into self.now }
+    {
+        self.sees(Symbol::Name) && self.sees_second(Symbol::Assign) && self.past_two().begins_call()
+    }
+
+    /// Expressions with commas between them. Each takes a token, so there are enough turns.
+    #[tactic(auto, using(crate::proofs::Lists::list_turns))]
+    fn expressions(&mut self, room: usize) -> Result<Items<RawExpr>, Fault>
+        requires { room < 999 }
+        ensures { Reads (λ x. x) (phrases another (expr room 0) self.old) result self.new }
+    {
+        let mut list = Items::new(self.alloc());
+        for _turn in 0..self.left() {
+            let a = self.expr(room, 0)?;
+            list.push(a.expr)?;
+            if !self.another() {
+                return Ok(list);
+            }
+            self.expect(Symbol::Comma)?;
+        }
+        Err(self.refuse())
+    }
+
+    /// The arguments of a call.
+    #[tactic(auto, unfolding(crate::specs::ReadSimple::arguments))]
+    fn arguments(&mut self, room: usize) -> Result<Items<RawExpr>, Fault>
+        requires { room < 999 }
+        ensures { Reads (λ x. x) (spec.arguments room self.old) result self.new }
+    {
+        if self.sees(Symbol::RightParen) {
+            return Ok(Items::new(self.alloc()));
+        }
+        self.expressions(room)
+    }
+
+    /// A call whose result goes to `to`, with its semicolon.
+    #[tactic(auto, unfolding(crate::specs::ReadSimple::called))]
+    pub fn called(&mut self, room: usize, to: RawTarget) -> Result<Items<RawStmt>, Fault>
+        requires { room < 999 }
+        ensures { Reads (λ x. x) (spec.called room to self.old) result self.new }
+    {
+        let function = self.name()?;
+        self.expect(Symbol::LeftParen)?;
+        let list = self.arguments(room)?;
+        self.expect(Symbol::RightParen)?;
+        self.expect(Symbol::Semicolon)?;
+        only(self.alloc(), RawStmt::Call(to, function, list))
+    }
+
+    /// A call whose result is assigned.
+    #[tactic(auto, unfolding(crate::specs::ReadSimple::call_into))]
+    fn assigned_call(&mut self, room: usize) -> Result<Items<RawStmt>, Fault>
+        requires { room < 999 }
+        ensures { Reads (λ x. x) (spec.call_into room RawTarget.Assign self.old) result self.new }
+    {
+        let spot = self.name()?;
+        self.expect(Symbol::Assign)?;
+        self.called(room, RawTarget::Assign(spot))
+    }
+
+    /// What is assigned to.
+    #[tactic(auto, using(crate::proofs::StmtTurns::part_turns))]
+    fn assigned(&mut self, room: usize) -> Result<RawPlace, Fault>
+        requires { room < 999 }
+        ensures { Reads (λ x. x) (spec.assigned room self.old) result self.new }
+    {
+        if room == 0 {
+            return Err(self.too_deep());
+        }
+        let spot = self.name()?;
+        if !self.sees(Symbol::LeftBracket) {
+            return Ok(RawPlace::Scalar(spot));
+        }
+        let a = self.index(room - 1)?;
+        Ok(RawPlace::Elem(spot, a.expr))
+    }
+
+    /// The rest of an assignment to a place.
+    #[tactic(auto, using(crate::proofs::StmtTurns::next_symbol), unfolding(crate::specs::ReadSimple::set))]
+    fn set(&mut self, room: usize, place: RawPlace) -> Result<RawStmt, Fault>
+        requires { room < 999 }
+        ensures { Reads (λ x. x) (spec.set room place self.old) result self.new }
+    {
+        match self.peek() {
+            Some(Symbol::Assign) => {
+                self.take();
+                let a = self.expr(room, 0)?;
+                Ok(RawStmt::Assign(place, None, a.expr))
+            }
+            Some(Symbol::Compound(op)) => {
+                self.take();
+                let a = self.expr(room, 0)?;
+                Ok(RawStmt::Assign(place, Some(op), a.expr))
+            }
+            Some(Symbol::Step(op)) => {
+                let at = self.place();
+                self.take();
+                Ok(RawStmt::Assign(place, Some(op), one(at)))
+            }
+            _ => Err(self.refuse()),
+        }
+    }
+
+    /// `++` or `--`, and a place.
+    #[tactic(auto, unfolding(crate::specs::ReadSimple::stepped))]
+    fn stepped(&mut self, room: usize, op: BinOp) -> Result<RawStmt, Fault>
+        requires some { 0 < length self.old }
+        requires few { room < 999 }
+        ensures { Reads (λ x. x) (spec.stepped room op self.old) result self.new }
+    {
+        let at = self.place();
+        self.take();
+        let place = self.assigned(room)?;
+        Ok(RawStmt::Assign(place, Some(op), one(at)))
+    }
+
+    /// An assignment, without its semicolon.
+    #[tactic(auto, using(crate::proofs::StmtTurns::next_symbol), unfolding(crate::specs::ReadSimple::assignment))]
+    pub fn assignment(&mut self, room: usize) -> Result<RawStmt, Fault>
+        requires { room < 999 }
+        ensures { Reads (λ x. x) (spec.assignment room self.old) result self.new }
+    {
+        match self.peek() {
+            Some(Symbol::Step(op)) => self.stepped(room, op),
+            _ => {
+                let place = self.assigned(room)?;
+                self.set(room, place)
+            }
+        }
+    }
+
+    #[tactic(auto, unfolding(crate::specs::ReadSimple::assign))]
+    pub fn assign(&mut self, room: usize) -> Result<Items<RawStmt>, Fault>
+        requires { room < 999 }
+        ensures { Reads (λ x. x) (spec.assign room self.old) result self.new }
+    {
+        let stmt = self.assignment(room)?;
+        self.expect(Symbol::Semicolon)?;
+        only(self.alloc(), stmt)
+    }
+
+    /// What begins with a name: a call or an assignment.
+    #[tactic(auto, unfolding(crate::specs::ReadSimple::named))]
+    pub fn named(&mut self, room: usize) -> Result<Items<RawStmt>, Fault>
+        requires { room < 999 }
+        ensures { Reads (λ x. x) (spec.named room self.old) result self.new }
+    {
+        if self.begins_call() {
+            self.called(room, RawTarget::Nothing)
+        } else if self.begins_call_into() {
+            self.assigned_call(room)
+        } else {
+            self.assign(room)
+        }
+    }
+
+    #[tactic(auto, unfolding(crate::specs::ReadSimple::empty))]
+    pub fn empty(&mut self) -> Result<Items<RawStmt>, Fault>
+        ensures { Reads (λ x. x) (spec.empty self.old) result self.new }
+    {
+        self.expect(Symbol::Semicolon)?;
+        only(self.alloc(), RawStmt::Empty)
+    }
+
+    #[tactic(auto, unfolding(crate::specs::ReadSimple::broken))]
+    pub fn broken(&mut self) -> Result<Items<RawStmt>, Fault>
+        ensures { Reads (λ x. x) (spec.broken self.old) result self.new }
+    {
+        let at = self.expect(Symbol::Break)?;
+        self.expect(Symbol::Semicolon)?;
+        only(self.alloc(), RawStmt::Break(at))
+    }
+
+    #[tactic(auto, unfolding(crate::specs::ReadSimple::continued))]
+    pub fn continued(&mut self) -> Result<Items<RawStmt>, Fault>
+        ensures { Reads (λ x. x) (spec.continued self.old) result self.new }
+    {
+        let at = self.expect(Symbol::Continue)?;
+        self.expect(Symbol::Semicolon)?;
+        only(self.alloc(), RawStmt::Continue(at))
+    }
+
+    /// The expression of a `return`, if there is one.
+    #[tactic(auto, unfolding(crate::specs::ReadSimple::answer))]
+    fn answer(&mut self, room: usize) -> Result<Option<RawExpr>, Fault>
+        requires { room < 999 }
+        ensures { Reads (λ x. x) (spec.answer room self.old) result self.new }
+    {
+        if self.sees(Symbol::Semicolon) {
+            return Ok(None);
+        }
+        let a = self.expr(room, 0)?;
+        Ok(Some(a.expr))
+    }
+
+    #[tactic(auto, unfolding(crate::specs::ReadSimple::returned))]
+    pub fn returned(&mut self, room: usize) -> Result<Items<RawStmt>, Fault>
+        requires { room < 999 }
+        ensures { Reads (λ x. x) (spec.returned room self.old) result self.new }
+    {
+        let at = self.expect(Symbol::Return)?;
+        let value = self.answer(room)?;
+        self.expect(Symbol::Semicolon)?;
+        only(self.alloc(), RawStmt::Return(at, value))
+    }
+}
