@@ -1,0 +1,4 @@
+pub mod Sites
+pub mod Graphs
+pub mod Paths
+pub mod Driving
