@@ -1,0 +1,8 @@
+pub mod Counting
+pub mod Steps
+pub mod Claim
+pub mod Once
+pub mod Fair
+pub mod Sizes
+pub mod Parts
+pub mod Lists
