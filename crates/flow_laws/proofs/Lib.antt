@@ -6,3 +6,4 @@ pub mod Fair
 pub mod Sizes
 pub mod Parts
 pub mod Lists
+pub mod Runs
