@@ -7,3 +7,5 @@ pub mod Sizes
 pub mod Parts
 pub mod Lists
 pub mod Runs
+pub mod Copies
+pub mod Whole
