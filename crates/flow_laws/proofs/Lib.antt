@@ -9,3 +9,7 @@ pub mod Lists
 pub mod Runs
 pub mod Copies
 pub mod Whole
+pub mod Keeps
+pub mod Turned
+pub mod Bounds
+pub mod Edges
