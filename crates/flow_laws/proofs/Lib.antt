@@ -13,3 +13,4 @@ pub mod Keeps
 pub mod Turned
 pub mod Bounds
 pub mod Edges
+pub mod Weights

@@ -62,7 +62,7 @@ row_halts g fs w (more_of-Stmt st rest) b n x0 ss k s0 fr left h has =
     let more = all_append (x0 ∷ ss) st s0 ∙ ap (option_and_then (simple st)) h in
     choose_halts w g n (head (size fs st false) n1 next) x0 ss (block w.func b) s0 fr left (row_flow fs w rest b n ((x0 ∷ ss) ++ st ∷ []) k) (flow fs w st (b + 1) n1 (with_next k next) ++ row_flow fs w rest (b + 1 + blocks st false) n2 [] k) h (λ p. row_halts g fs w rest b n x0 (ss ++ st ∷ []) k s0 fr left more p) (is_simple st) has
 
-simple_once : (os : Onces) (cs : List Copy) (st : Stmt) (run : Bool) (x n : ℕ) → is_simple st ≡ true → once os cs st run x n ≡ begun_once run (hit x n)
+pub simple_once : (os : Onces) (cs : List Copy) (st : Stmt) (run : Bool) (x n : ℕ) → is_simple st ≡ true → once os cs st run x n ≡ begun_once run (hit x n)
 unfolding once
 simple_once os cs Empty run x n h = refl
 simple_once os cs (Scalar l e) run x n h = refl

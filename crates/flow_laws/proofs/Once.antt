@@ -15,7 +15,7 @@ begun_once true h = 0
 begun_once false h = h
 
 abbrev pub call_once : (ℕ → ℕ → ℕ) → Option Copy → ℕ → ℕ → ℕ
-call_once o None x n = hit x n
+call_once o None x n = hit x n + hit x (n + 1)
 call_once o (Some c) x n = hit x n + (o x (n + 1) + hit x (n + 1 + c.size))
 
 unfoldable mutual
