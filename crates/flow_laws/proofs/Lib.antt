@@ -14,3 +14,4 @@ pub mod Turned
 pub mod Bounds
 pub mod Edges
 pub mod Weights
+pub mod Caps
