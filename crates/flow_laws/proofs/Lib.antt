@@ -15,3 +15,6 @@ pub mod Bounds
 pub mod Edges
 pub mod Weights
 pub mod Caps
+pub mod Numbers
+pub mod Walking
+pub mod Totals

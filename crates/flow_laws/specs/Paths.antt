@@ -12,11 +12,15 @@ use Rattle.flow_laws.specs.Graphs.{edges}
 
 -- ---- following
 
--- the node to which the edges lead from the node n, where there are such edges and each begins where the one before ends
+-- where an edge leads, if it is there and begins at the node n
+abbrev pub led_on : ℕ → Option Edge → (ℕ → Option ℕ) → Option ℕ
+led_on n None go = None
+led_on n (Some e) go = if e.from == n then go e.to else None
+
+-- the node to which the edges lead from the node n, where each is there and begins where the one before ends
 abbrev pub led : List Edge → ℕ → List ℕ → Option ℕ
 led es n [] = Some n
-led es n (j ∷ q) =
-    elim (slice_get es j) as (λ o. Option ℕ) [ None ↦ None | Some e ↦ if e.from == n then led es e.to q else None ]
+led es n (j ∷ q) = led_on n (slice_get es j) (λ m. led es m q)
 
 -- the list names only edges, and is contiguous from Entry
 abbrev pub follows : List Edge → List ℕ → Bool
