@@ -66,11 +66,11 @@ all_weighed (f ∷ fs) cs ms h =
 
 -- ---- the graph
 
-hit_same : (x n : ℕ) → x ≡ n → hit x n ≡ 1
+pub hit_same : (x n : ℕ) → x ≡ n → hit x n ≡ 1
 unfolding hit
 hit_same x n e = ap (λ b. if b then 1 else 0) (eq-eqb x n e)
 
-hit_other : (x n : ℕ) → x ≢ n → hit x n ≡ 0
+pub hit_other : (x n : ℕ) → x ≢ n → hit x n ≡ 0
 unfolding hit
 hit_other x n e = ap (λ b. if b then 1 else 0) (ne_eqb x n e)
 

@@ -18,3 +18,5 @@ pub mod Caps
 pub mod Numbers
 pub mod Walking
 pub mod Totals
+pub mod Final
+pub mod Rows

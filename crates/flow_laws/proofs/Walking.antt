@@ -8,6 +8,7 @@ use Rattle.flow_laws.specs.Sites.{Site}
 use Rattle.flow_laws.specs.Graphs.{leaves, edges}
 use Rattle.flow_laws.specs.Paths.{led, led_on}
 use Rattle.flow_laws.specs.Driving.{Memory, Goes, act, Passes, Walks}
+use Rattle.flow_laws.specs.Claims.{Begins}
 use Rattle.flow_laws.proofs.Counting.{target}
 use Rattle.flow_laws.proofs.Edges.{leaves_source, one_number}
 use Rattle.flow_laws.proofs.Bounds.{Walked}
@@ -59,9 +60,6 @@ walks_lead g (j ∷ js) n m n' m' h =
     led_step (edges g) n j js p.edge p.is p.from_is ∙ ap (λ y. led (edges g) y js) p.to_is ∙ walks_lead g js h.0 h.1 n' m' h.3
 
 -- ---- there is only one
-
-abbrev pub Begins : List ℕ → List ℕ → Type 0
-Begins p q = (r : List ℕ) × (q ≡ p ++ r)
 
 begins_more : (j k : ℕ) (p q : List ℕ) → j ≡ k → Begins p q ⊎ Begins q p → Begins (j ∷ p) (k ∷ q) ⊎ Begins (k ∷ q) (j ∷ p)
 begins_more j k p q e (inl h) = inl (h.0, λ i. sym e i ∷ h.1 i)

@@ -2,3 +2,4 @@ pub mod Sites
 pub mod Graphs
 pub mod Paths
 pub mod Driving
+pub mod Claims
