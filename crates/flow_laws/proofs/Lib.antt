@@ -20,3 +20,5 @@ pub mod Walking
 pub mod Totals
 pub mod Final
 pub mod Rows
+pub mod Prefixes
+pub mod Formed
