@@ -22,3 +22,4 @@ pub mod Final
 pub mod Rows
 pub mod Prefixes
 pub mod Formed
+pub mod WorkedGraphs

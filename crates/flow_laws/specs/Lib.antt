@@ -3,3 +3,4 @@ pub mod Graphs
 pub mod Paths
 pub mod Driving
 pub mod Claims
+pub mod WorkedGraphs

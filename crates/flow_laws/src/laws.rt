@@ -2,4 +2,5 @@
 
 pub mod counts;
 pub mod edges;
+pub mod graphs;
 pub mod paths;
