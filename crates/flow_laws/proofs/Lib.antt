@@ -23,3 +23,4 @@ pub mod Rows
 pub mod Prefixes
 pub mod Formed
 pub mod WorkedGraphs
+pub mod FlowLayers
