@@ -24,3 +24,4 @@ pub mod Prefixes
 pub mod Formed
 pub mod WorkedGraphs
 pub mod FlowLayers
+pub mod Ends

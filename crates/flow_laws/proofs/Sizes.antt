@@ -86,7 +86,7 @@ call_length w None t es b n next h = refl
 call_length w (Some c) t es b n next h =
     omega (arith, length-append (c.sites (w.chain ++ b ∷ []) w.scale (n + 1) (n + 1 + c.size)) (one w (Land t c.result) None next ∷ []), h c refl (w.chain ++ b ∷ []) w.scale (n + 1) (n + 1 + c.size))
 
-passed_length : (ss : List Stmt) (st : Stmt) (r : Bool → ℕ) (len z : ℕ) → z ≡ begun (is_run ss) → len ≡ spanned (ss ++ st ∷ []) (r (is_run (ss ++ st ∷ []))) → len ≡ spanned ss (z + r true)
+pub passed_length : (ss : List Stmt) (st : Stmt) (r : Bool → ℕ) (len z : ℕ) → z ≡ begun (is_run ss) → len ≡ spanned (ss ++ st ∷ []) (r (is_run (ss ++ st ∷ []))) → len ≡ spanned ss (z + r true)
 passed_length [] st r len z e h = let p : suc (r true) ≡ z + r true = omega (arith, e) in h ∙ p
 passed_length (x ∷ xs) st r len z e h = let p : r true ≡ z + r true = omega (arith, e) in h ∙ ap suc p
 
