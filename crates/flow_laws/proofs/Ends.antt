@@ -1,5 +1,5 @@
 -- Each end of a node leads to a node, and none to Entry.
-use Rattle.std.proofs.Common.{◌≡◌, ℕ, zero, suc, ◌+◌, ◌<◌, ◌≤◌, Bool, true, false, if◌then◌else◌, List, [], ◌∷◌, ◌++◌, length, Option, Some, None, refl, sym, ap, ◌∙◌, subst, arith}
+use Rattle.std.proofs.Common.{◌≡◌, ℕ, zero, suc, ◌+◌, ◌<◌, ◌≤◌, Bool, true, false, if◌then◌else◌, List, [], ◌∷◌, ◌++◌, length, Option, Some, None, refl, sym, ap, ◌∙◌, subst, arith, length-append}
 use Rattle.std.specs.Prelude.{slice_get}
 use Rattle.c_tree.specs.declared.tree.Expr.{Expr}
 use Rattle.c_tree.specs.declared.tree.Target.{Target}
@@ -20,6 +20,8 @@ use Rattle.flow_laws.proofs.Counting.{target}
 use Rattle.flow_laws.proofs.Sizes.{HaveSizes, is_run, spanned, simple_size, plain_size, passed_length}
 use Rattle.flow_laws.proofs.Copies.{row_sizes, row_flows, list_length}
 use Rattle.flow_laws.proofs.Edges.{leaves_source}
+use Rattle.flow_laws.proofs.Turned.{copy_sizes}
+use Rattle.c_tree.specs.WellFormed.{WellFormed}
 
 pub record LeadsOn (P : ℕ → Type 0) (s : Site) : Type 0 where
   pub yes : P s.yes
@@ -160,3 +162,95 @@ module _ (P : ℕ → Type 0) (lo hi : ℕ) (all : (x : ℕ) → lo ≤ x → x 
       pub held_ends : (w : Position) (x : Held-Stmt-For-1) (b n : ℕ) (k : Targets) → lo ≤ n → n + held_size cs x ≤ hi → TargetsAre P k → AllLead P (held_flow cs w x b n k)
       held_ends w None' b n k le ge h = tt
       held_ends w (Some' a x) b n k le ge h = row_ends w x b n [] k le ge h
+
+-- ---- functions
+
+module _ (P : ℕ → Type 0) (lo hi : ℕ) (all : (x : ℕ) → lo ≤ x → x < hi → P x) where
+  abbrev IsLed : Copy → Type 0
+  IsLed c = (h : List BlockName) (s n l : ℕ) → lo ≤ n → n + c.size ≤ hi → P l → AllLead P (c.sites h s n l)
+
+  abbrev AreLed : List Copy → Type 0
+  AreLed [] = Unit {0}
+  AreLed (c ∷ cs) = IsLed c × AreLed cs
+
+  led_get : (cs : List Copy) → AreLed cs → (g : ℕ) (c : Copy) → slice_get cs g ≡ Some c → IsLed c
+  led_get [] h g c e = absurd (cc)
+  led_get (d ∷ cs) h zero c e = let p : d ≡ c = cc in subst IsLed p h.0
+  led_get (d ∷ cs) h (suc g) c e = led_get cs h.1 g c e
+
+  led_more : (cs : List Copy) (c : Copy) → AreLed cs → IsLed c → AreLed (cs ++ c ∷ [])
+  led_more [] c h is = (is, tt)
+  led_more (d ∷ cs) c h is = (h.0, led_more cs c h.1 is)
+
+  copy_led : (cs : List Copy) (k : ℕ) (f : Func) → AreLed cs → IsLed (copy_of k f cs)
+  copy_led cs k f h chain s n l le ge p =
+      let w : Position = record { func = k; chain = chain; scale = s } in
+      let r = hidden-the_row-Stmt-0 f.body in
+      let to : TargetsAre P (all_to l) = record { next = p; breaks = p; continues = p; returns = p } in
+      subst (AllLead P) (row_flows cs w f.body 0 n [] (all_to l)) (row_ends P lo hi all cs (led_get cs h) w r 0 n [] (all_to l) le (omega (arith, ge, row_sizes cs f.body false)) to)
+
+  all_led : (funcs : List Func) (cs : List Copy) → AreLed cs → AreLed (copies cs funcs)
+  all_led [] cs h = h
+  all_led (f ∷ fs) cs h =
+      all_led fs (cs ++ copy_of (length cs) f cs ∷ []) (led_more cs (copy_of (length cs) f cs) h (copy_led cs (length cs) f h))
+
+  pub copies_led : (funcs : List Func) (g : ℕ) (c : Copy) → slice_get (copies [] funcs) g ≡ Some c → IsLed c
+  copies_led funcs g c e = led_get (copies [] funcs) (all_led funcs [] tt) g c e
+
+-- ---- the graph
+
+copies_length : (cs : List Copy) (fs : List Func) → length (copies cs fs) ≡ length cs + length fs
+copies_length cs [] = omega arith
+copies_length cs (f ∷ fs) =
+    let c = copy_of (length cs) f cs in
+    omega (arith, copies_length (cs ++ c ∷ []) fs, length-append cs (c ∷ []))
+
+-- the entry function has its copy
+entry_copy : (cs : List Copy) (n : ℕ) → n < length cs → (c : Copy) × (slice_get cs n ≡ Some c)
+entry_copy [] n lt = absurd (omega (arith, lt))
+entry_copy (c ∷ cs) zero lt = (c, refl)
+entry_copy (c ∷ cs) (suc n) lt = entry_copy cs n (omega (arith, lt))
+
+get_below : {A : Type 0} (xs : List A) (n : ℕ) (x : A) → slice_get xs n ≡ Some x → n < length xs
+get_below [] n x e = absurd (cc)
+get_below (y ∷ xs) zero x e = omega arith
+get_below (y ∷ xs) (suc n) x e = omega (arith, get_below xs n x e)
+
+-- a node but Entry
+abbrev IsTarget : List Site → ℕ → Type 0
+IsTarget g x = (1 ≤ x) × (x < length g)
+
+whole_leads : (p : Program) (c : Copy) → slice_get (copies [] p.funcs) p.entry ≡ Some c → HaveSizes (copies [] p.funcs) → AllLead (IsTarget (sites_of (Some c))) (sites_of (Some c))
+whole_leads p c is sizes =
+    let g = sites_of (Some c) in
+    let len : length g ≡ 2 + c.size = omega (arith, sizes p.entry c is [] 1 2 1) in
+    let all : (x : ℕ) → 2 ≤ x → x < 2 + c.size → IsTarget g x = λ x le lt. (omega (arith, le), omega (arith, lt, len)) in
+    let exit : IsTarget g 1 = (omega arith, omega (arith, len)) in
+    let first = head_leads (IsTarget g) 2 (2 + c.size) all c.size 2 1 (omega arith) (omega arith) exit in
+    (record { yes = first; no = first }, (record { yes = exit; no = exit }, copies_led (IsTarget g) 2 (2 + c.size) all p.funcs p.entry c is [] 1 2 1 (omega arith) (omega arith) exit))
+
+target_is : (P : ℕ → Type 0) (s : Site) (t : Way) → LeadsOn P s → P (target s t)
+target_is P s Next h = h.yes
+target_is P s True h = h.yes
+target_is P s False h = h.no
+
+pub record JoinsNodes (g : List Site) (e : Edge) : Type 0 where
+  pub from : e.from < length g
+  pub not_entry : 1 ≤ e.to
+  pub to : e.to < length g
+
+site_leads : (g : List Site) → AllLead (IsTarget g) g → (j : ℕ) (e : Edge) → slice_get (edges g) j ≡ Some e → JoinsNodes g e
+site_leads g h j e is =
+    let s = leaves_source g j e is in
+    let to = subst (λ d. IsTarget g d.to) (sym s.edge_is) (target_is (IsTarget g) s.site e.way (lead_at (IsTarget g) g e.from s.site h s.has)) in
+    record { from = get_below g e.from s.site s.has; not_entry = to.0; to = to.1 }
+
+graph_leads : (p : Program) → WellFormed p → AllLead (IsTarget (graph p)) (graph p)
+unfolding graph
+graph_leads p h =
+    let cs = copies [] p.funcs in
+    let c = entry_copy cs p.entry (omega (arith, h.entry, copies_length [] p.funcs)) in
+    subst (λ o. AllLead (IsTarget (sites_of o)) (sites_of o)) (sym c.1) (whole_leads p c.0 c.1 (copy_sizes p.funcs))
+
+pub edges_join : (p : Program) → WellFormed p → (j : ℕ) (e : Edge) → slice_get (edges (graph p)) j ≡ Some e → JoinsNodes (graph p) e
+edges_join p h = site_leads (graph p) (graph_leads p h)

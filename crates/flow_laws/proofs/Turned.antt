@@ -155,6 +155,10 @@ all_turned [] cs h = h
 all_turned (f ∷ fs) cs h =
     all_turned fs (cs ++ copy_of (length cs) f cs ∷ []) (turned_more cs (copy_of (length cs) f cs) h (λ chain s n l. list_length cs (placed (length cs) chain s) f.body n (all_to l) (sizes_at cs h)) (copy_turned cs (length cs) f h))
 
+-- each function's copy has as many nodes as its size says
+pub copy_sizes : (funcs : List Func) → HaveSizes (copies [] funcs)
+copy_sizes funcs = sizes_at (copies [] funcs) (all_turned funcs [] tt)
+
 nodes_turned : (o : Option Copy) → ((c : Copy) → o ≡ Some c → (h : List BlockName) (s n l : ℕ) → AllTested n (c.sites h s n l)) → AllTested 0 (sites_of o)
 nodes_turned None h = (tt, tt)
 nodes_turned (Some c) h = (tt, (tt, h c refl [] 1 2 1))

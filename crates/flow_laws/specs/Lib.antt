@@ -3,4 +3,5 @@ pub mod Graphs
 pub mod Paths
 pub mod Driving
 pub mod Claims
+pub mod OpenEnds
 pub mod WorkedGraphs
