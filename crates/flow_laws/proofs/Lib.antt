@@ -25,3 +25,4 @@ pub mod Formed
 pub mod WorkedGraphs
 pub mod FlowLayers
 pub mod Ends
+pub mod Joined
