@@ -22,7 +22,7 @@ use Rattle.flow_laws.proofs.Runs.{past_flush}
 
 -- ---- counting
 
-abbrev mark : Bool → ℕ
+abbrev pub mark : Bool → ℕ
 mark true = 1
 mark false = 0
 
@@ -39,11 +39,11 @@ tally_times p (e ∷ q) = by_edge (p e) (tally_times p q)
     by_edge true h = omega (arith, h)
     by_edge false h = omega (arith, h)
 
-tally_append : (p : Edge → Bool) (a b : List Edge) → tally p (a ++ b) ≡ tally p a + tally p b
+pub tally_append : (p : Edge → Bool) (a b : List Edge) → tally p (a ++ b) ≡ tally p a + tally p b
 tally_append p [] b = omega arith
 tally_append p (e ∷ a) b = omega (arith, tally_append p a b)
 
-tally_join : (p : Edge → Bool) (a b : List End) (n : ℕ) → tally p (join (a ++ b) n) ≡ tally p (join a n) + tally p (join b n)
+pub tally_join : (p : Edge → Bool) (a b : List End) (n : ℕ) → tally p (join (a ++ b) n) ≡ tally p (join a n) + tally p (join b n)
 tally_join p [] b n = omega arith
 tally_join p (e ∷ a) b n = omega (arith, tally_join p a b n)
 

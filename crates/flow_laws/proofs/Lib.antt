@@ -26,3 +26,4 @@ pub mod WorkedGraphs
 pub mod FlowLayers
 pub mod Ends
 pub mod Joined
+pub mod JoinedGraph

@@ -1,12 +1,12 @@
 -- A list that is driven follows the edges, and each list with which it begins is driven.
-use Rattle.std.proofs.Common.{◌≡◌, ℕ, true, List, [], ◌∷◌, ◌++◌, Option, Some, refl, sym, ap, ◌∙◌, append_assoc}
-use Rattle.std.specs.Prelude.{is_some, ◌↔◌}
+use Rattle.std.proofs.Common.{◌≡◌, ℕ, Bool, true, false, List, [], ◌∷◌, ◌++◌, Option, Some, None, refl, sym, ap, ◌∙◌, append_assoc}
+use Rattle.std.specs.Prelude.{is_some, ◌↔◌, ◌==◌, ◌&&◌}
 use Rattle.c_tree.specs.declared.program.Program.{Program}
 use Rattle.c_tree.specs.declared.program.Input.{Input}
 use Rattle.flow_laws.specs.declared.graph.Loop.{Loop}
 use Rattle.flow_laws.specs.Sites.{Site}
 use Rattle.flow_laws.specs.Graphs.{graph, edges, loops}
-use Rattle.flow_laws.specs.Paths.{follows, is_among, most_turns, Keeps, KeepsEach, keeps}
+use Rattle.flow_laws.specs.Paths.{follows, is_among, most_turns, Keeps, KeepsEach, keeps, keeps_each}
 use Rattle.flow_laws.specs.Driving.{Memory, start, Walks, Drives}
 use Rattle.flow_laws.proofs.Keeps.{keeps_counter, counter_keeps}
 use Rattle.flow_laws.proofs.Walking.{walks_lead}
@@ -43,4 +43,25 @@ driven_front p i a b h =
 
 pub keeps_is : (l : Loop) (q : List ℕ) → Keeps l q ↔ (keeps l q ≡ true)
 keeps_is l q =
-    (keeps_counter (λ j. is_among j l.into) (λ j. Rattle.std.specs.Prelude.◌==◌ j l.turn) (most_turns l) q, counter_keeps (λ j. is_among j l.into) (λ j. Rattle.std.specs.Prelude.◌==◌ j l.turn) (most_turns l) q Rattle.std.specs.Prelude.None)
+    (keeps_counter (λ j. is_among j l.into) (λ j. j == l.turn) (most_turns l) q, counter_keeps (λ j. is_among j l.into) (λ j. j == l.turn) (most_turns l) q None)
+
+and_parts : (x y : Bool) → (x && y) ≡ true → (x ≡ true) × (y ≡ true)
+and_parts true true e = (refl, refl)
+and_parts true false e = absurd (cc)
+and_parts false y e = absurd (cc)
+
+and_whole : (x y : Bool) → x ≡ true → y ≡ true → (x && y) ≡ true
+and_whole x y h k = λ i. h i && k i
+
+each_forth : (ls : List Loop) (q : List ℕ) → KeepsEach ls q → keeps_each ls q ≡ true
+each_forth [] q h = refl
+each_forth (l ∷ ls) q h = and_whole (keeps l q) (keeps_each ls q) ((keeps_is l q).0 h.0) (each_forth ls q h.1)
+
+each_back : (ls : List Loop) (q : List ℕ) → keeps_each ls q ≡ true → KeepsEach ls q
+each_back [] q h = tt
+each_back (l ∷ ls) q h =
+    let parts = and_parts (keeps l q) (keeps_each ls q) h in
+    ((keeps_is l q).1 parts.0, each_back ls q parts.1)
+
+pub each_is : (ls : List Loop) (q : List ℕ) → KeepsEach ls q ↔ (keeps_each ls q ≡ true)
+each_is ls q = (each_forth ls q, each_back ls q)

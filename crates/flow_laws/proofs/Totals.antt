@@ -1,10 +1,12 @@
 -- Sums of the counts of edges are counts along the list.
-use Rattle.std.proofs.Common.{◌≡◌, ◌<◌, ℕ, zero, suc, ◌+◌, Bool, true, false, if◌then◌else◌, List, [], ◌∷◌, Option, Some, None, refl, sym, ap, ◌∙◌, subst, arith}
+use Rattle.std.proofs.Common.{◌≡◌, ◌<◌, ℕ, zero, suc, ◌+◌, ◌*◌, Bool, true, false, if◌then◌else◌, List, [], ◌∷◌, Option, Some, None, refl, sym, ap, ◌∙◌, subst, arith}
 use Rattle.std.specs.Prelude.{slice_get, ◌==◌}
 use Rattle.std.proofs.lemmas.Bool.{eq-eqb, ne_eqb}
 use Rattle.flow_laws.specs.declared.graph.Edge.{Edge}
-use Rattle.flow_laws.specs.Graphs.{positions}
-use Rattle.flow_laws.specs.Paths.{times, count, total, total_of}
+use Rattle.c_tree.specs.declared.program.Costs.{Costs}
+use Rattle.flow_laws.specs.Sites.{Site}
+use Rattle.flow_laws.specs.Graphs.{positions, edges}
+use Rattle.flow_laws.specs.Paths.{times, count, total, total_of, cost_of_edge, price, worth_of, worth}
 use Rattle.flow_laws.proofs.Numbers.{Names}
 
 pub total_positions : (js : List ℕ) (p : Edge → Bool) (i : ℕ) (es : List Edge) → total js (positions i p es) ≡ total_of js p i es
@@ -79,3 +81,36 @@ total_names p es (j ∷ js) (e ∷ q) h =
     let z : 0 + j ≡ j = omega arith in
     let rest = total_names p es js q h.1 in
     subst (λ y. total_of (y ∷ js) p 0 es ≡ (if p e then suc (total_of js p 0 es) else total_of js p 0 es)) z (total_more js p 0 j es e h.0) ∙ ap (λ y. if p e then suc y else y) rest
+
+-- ---- prices
+
+worth_none : (t : Costs) (g : List Site) (i : ℕ) (es : List Edge) → worth_of t g [] i es ≡ 0
+worth_none t g i [] = refl
+worth_none t g i (e ∷ es) = omega (arith, worth_none t g (i + 1) es)
+
+worth_below : (t : Costs) (g : List Site) (q : List ℕ) (i j : ℕ) (es : List Edge) → j < i → worth_of t g (j ∷ q) i es ≡ worth_of t g q i es
+worth_below t g q i j [] lt = refl
+worth_below t g q i j (e ∷ es) lt =
+    let here = ap (λ y. cost_of_edge t g (Some e) * y) (count_other q j i (ne_eqb j i (λ e. omega (arith, lt, e)))) in
+    omega (arith, here, worth_below t g q (i + 1) j es (omega (arith, lt)))
+
+worth_more : (t : Costs) (g : List Site) (q : List ℕ) (i k : ℕ) (es : List Edge) → worth_of t g ((i + k) ∷ q) i es ≡ cost_of_edge t g (slice_get es k) + worth_of t g q i es
+worth_more t g q i k [] = refl
+worth_more t g q i zero (e ∷ es) =
+    let here = ap (λ y. cost_of_edge t g (Some e) * y) (count_same q (i + 0) i (eq-eqb (i + 0) i (omega arith))) in
+    omega (arith, here, worth_below t g q (i + 1) (i + 0) es (omega arith))
+worth_more t g q i (suc k) (e ∷ es) =
+    let here = ap (λ y. cost_of_edge t g (Some e) * y) (count_other q (i + suc k) i (ne_eqb (i + suc k) i (λ e. omega (arith, e)))) in
+    let z : i + 1 + k ≡ i + suc k = omega arith in
+    let rest = worth_more t g q (i + 1) k es in
+    omega (arith, here, rest, ap (λ y. worth_of t g (y ∷ q) (i + 1) es) z)
+
+worth_is : (t : Costs) (g : List Site) (q : List ℕ) → price t g q ≡ worth t g q
+worth_is t g [] = sym (worth_none t g 0 (edges g))
+worth_is t g (j ∷ q) =
+    let z : 0 + j ≡ j = omega arith in
+    let more = worth_more t g q 0 j (edges g) in
+    omega (arith, worth_is t g q, more, ap (λ y. worth_of t g (y ∷ q) 0 (edges g)) z)
+
+pub price_by_counts : (t : Costs) (g : List Site) (q : List ℕ) → price t g q ≡ worth t g q
+price_by_counts t g q = worth_is t g q

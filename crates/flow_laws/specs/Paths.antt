@@ -1,6 +1,6 @@
 -- Paths as lists of edge numbers: which lists follow the edges, which keep a loop's bound, what they count and what they cost.
 -- This project's own.
-use Rattle.std.specs.Prelude.{◌≡◌, ◌≤◌, ℕ, zero, suc, ◌+◌, ◌-◌, ◌==◌, not, Bool, true, false, if◌then◌else◌, List, [], ◌∷◌, ◌++◌, map, slice_get, Option, Some, None, is_some}
+use Rattle.std.specs.Prelude.{◌≡◌, ◌≤◌, ℕ, zero, suc, ◌+◌, ◌*◌, ◌-◌, ◌==◌, ◌&&◌, not, Bool, true, false, if◌then◌else◌, List, [], ◌∷◌, ◌++◌, map, slice_get, Option, Some, None, is_some}
 use Rattle.std.specs.List.{list_all}
 use Rattle.c_tree.specs.declared.program.BlockName.{BlockName}
 use Rattle.c_tree.specs.declared.program.Costs.{Costs}
@@ -97,6 +97,11 @@ keeps_from en tu most left (e ∷ q) =
 abbrev pub keeps : Loop → List ℕ → Bool
 keeps l q = keeps_from (λ j. is_among j l.into) (λ j. j == l.turn) (most_turns l) None q
 
+-- the same for each loop
+abbrev pub keeps_each : List Loop → List ℕ → Bool
+keeps_each [] q = true
+keeps_each (l ∷ ls) q = keeps l q && keeps_each ls q
+
 -- ---- costs
 
 abbrev pub cost_of_block : Costs → Option BlockName → ℕ
@@ -118,3 +123,11 @@ edge_cost t g j = cost_of_edge t g (slice_get (edges g) j)
 abbrev pub price : Costs → List Site → List ℕ → ℕ
 price t g [] = 0
 price t g (j ∷ q) = edge_cost t g j + price t g q
+
+-- the same by counts: the sum of the edges' costs times their counts, where the first edge has the number i
+abbrev pub worth_of : Costs → List Site → List ℕ → ℕ → List Edge → ℕ
+worth_of t g q i [] = 0
+worth_of t g q i (e ∷ es) = cost_of_edge t g (Some e) * count q i + worth_of t g q (i + 1) es
+
+abbrev pub worth : Costs → List Site → List ℕ → ℕ
+worth t g q = worth_of t g q 0 (edges g)

@@ -3,11 +3,13 @@
 ghost use Rattle.std.specs.Prelude.{◌≡◌, ◌≤◌, ℕ, ◌*◌, List, slice_get, Some};
 ghost use Rattle.c_tree.specs.declared.program.Program.{Program};
 ghost use Rattle.c_tree.specs.declared.program.Input.{Input};
+ghost use Rattle.c_tree.specs.declared.program.Costs.{Costs};
 ghost use Rattle.c_tree.specs.WellFormed.{WellFormed};
+ghost use Rattle.flow_laws.specs.Sites.{Site};
 ghost use Rattle.flow_laws.specs.declared.graph.Edge.{Edge};
 ghost use Rattle.flow_laws.specs.declared.graph.Loop.{Loop};
 ghost use Rattle.flow_laws.specs.Graphs.{graph, edges, loops};
-ghost use Rattle.flow_laws.specs.Paths.{count, total, leaving, arriving, cap_of, most_turns};
+ghost use Rattle.flow_laws.specs.Paths.{count, total, leaving, arriving, cap_of, most_turns, price, worth};
 ghost use Rattle.flow_laws.specs.Claims.{DrivesPath};
 
 /// A driven path takes each edge at most as often as the cap of the edge's source.
@@ -30,4 +32,9 @@ pub fn counts_are_conserved()
     ensures entry { (p : Program) (i : Input) (q : List ℕ) → WellFormed p → DrivesPath p i q → count q 0 ≡ 1 }
     ensures nodes { (p : Program) (i : Input) (q : List ℕ) → WellFormed p → DrivesPath p i q
         → (n : ℕ) → 2 ≤ n → leaving (edges (graph p)) q n ≡ arriving (edges (graph p)) q n }
+{}
+
+/// The price of a list is the sum of the edges' costs times their counts.
+pub fn prices_are_sums_over_counts()
+    ensures { (t : Costs) (g : List Site) (q : List ℕ) → price t g q ≡ worth t g q }
 {}

@@ -7,7 +7,7 @@ ghost use Rattle.c_tree.specs.declared.program.Costs.{Costs};
 ghost use Rattle.c_tree.specs.WellFormed.{WellFormed};
 ghost use Rattle.flow_laws.specs.declared.graph.Loop.{Loop};
 ghost use Rattle.flow_laws.specs.Graphs.{graph, edges};
-ghost use Rattle.flow_laws.specs.Paths.{follows, Keeps, keeps};
+ghost use Rattle.flow_laws.specs.Paths.{follows, Keeps, KeepsEach, keeps, keeps_each};
 ghost use Rattle.flow_laws.specs.Driving.{Drives};
 ghost use Rattle.flow_laws.specs.Claims.{EndsAt, DrivesAt, Begins};
 
@@ -29,7 +29,8 @@ pub fn driven_lists()
     ensures begin { (p : Program) (i : Input) (a b : List ℕ) → Drives p i (a ++ b) → Drives p i a }
 {}
 
-/// A list keeps a loop's bound exactly where the counter of the turns that are left says so.
+/// A list keeps a loop's bound exactly where the counter of the turns that are left says so; and so for several loops.
 pub fn bounds_are_counters()
-    ensures { (l : Loop) (q : List ℕ) → Keeps l q ↔ (keeps l q ≡ true) }
+    ensures one { (l : Loop) (q : List ℕ) → Keeps l q ↔ (keeps l q ≡ true) }
+    ensures each { (ls : List Loop) (q : List ℕ) → KeepsEach ls q ↔ (keeps_each ls q ≡ true) }
 {}
