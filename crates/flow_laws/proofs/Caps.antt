@@ -1,16 +1,15 @@
 -- The cap of each node of a program's graph is what a run can visit.
-use Rattle.std.proofs.Common.{◌≡◌, ◌≢◌, ◌≤◌, ◌<◌, ℕ, zero, suc, ◌+◌, ◌*◌, Bool, true, false, if◌then◌else◌, List, [], ◌∷◌, ◌++◌, length, Option, Some, None, refl, sym, ap, ◌∙◌, subst, arith}
-use Rattle.std.specs.Prelude.{slice_get, unwrap_or, ◌==◌}
+use Rattle.std.proofs.Common.{◌≡◌, ◌≢◌, ◌≤◌, ◌<◌, ℕ, zero, suc, ◌+◌, ◌*◌, false, if◌then◌else◌, List, [], ◌∷◌, ◌++◌, length, Option, Some, None, refl, sym, ap, ◌∙◌, subst, arith}
+use Rattle.std.specs.Prelude.{slice_get}
 use Rattle.std.proofs.lemmas.Bool.{eq-eqb, ne_eqb}
 use Rattle.c_tree.specs.declared.program.BlockName.{BlockName}
 use Rattle.c_tree.specs.declared.program.Func.{Func}
 use Rattle.c_tree.specs.declared.program.Program.{Program}
 use Rattle.c_tree.specs.declared.tree.Stmt.TheBlock.{hidden-the_row-Stmt-0}
-use Rattle.flow_laws.specs.Sites.{Entry, Exit, Missing, Site, Position, Copy, one, head, list_flow}
-use Rattle.flow_laws.specs.Graphs.{outermost, all_to, copy_of, copies, sites_of, graph}
+use Rattle.flow_laws.specs.Sites.{Site, Position, Copy}
+use Rattle.flow_laws.specs.Graphs.{all_to, copy_of, copies, sites_of, graph}
 use Rattle.flow_laws.specs.Paths.{cap_of}
 use Rattle.flow_laws.proofs.Counting.{hit}
-use Rattle.flow_laws.proofs.Once.{Onces}
 use Rattle.flow_laws.proofs.Sizes.{HaveSizes}
 use Rattle.flow_laws.proofs.Copies.{row_flows, row_onces, list_length, copy_once, once_at, all_once, onces}
 use Rattle.flow_laws.proofs.Weights.{weigh, HaveWeights, row_weighs}

@@ -9,16 +9,16 @@ use Rattle.c_tree.specs.declared.program.Program.{Program}
 use Rattle.c_tree.specs.declared.tree.Stmt.{Stmt, Row_of-Stmt, end_of-Stmt, more_of-Stmt, Held-Stmt-For-1, None', Some'}
 use Rattle.c_tree.specs.declared.tree.Stmt.TheVariants.{Empty, Scalar, Array, Assign, Call, Break, Continue, Return, If', While', Do', For', Group'}
 use Rattle.c_tree.specs.declared.tree.Stmt.TheBlock.{hidden-the_row-Stmt-0}
-use Rattle.c_tree.specs.Blocks.{is_simple, begun, blocks, row_blocks, held_blocks}
+use Rattle.c_tree.specs.Blocks.{is_simple, blocks, row_blocks, held_blocks}
 use Rattle.c_tree.specs.Statements.{block}
 use Rattle.flow_laws.specs.declared.graph.Way.{Way}
 use Rattle.flow_laws.specs.declared.graph.Way.TheVariants.{Next, True, False}
 use Rattle.flow_laws.specs.declared.graph.Edge.{Edge}
 use Rattle.flow_laws.specs.Sites.{LoopCopy, Site, Position, Copy, Targets, times_as_often, one, asks, loop_at, head, with_next, body_of, past, flush, call_size, call_sites, if_sites, while_sites, do_sites, for_sites, size, row_size, held_size, flow, row_flow, held_flow, list_size, list_flow}
-use Rattle.flow_laws.specs.Graphs.{all_to, copy_of, copies, sites_of, graph, edges, leaves}
+use Rattle.flow_laws.specs.Graphs.{all_to, copy_of, copies, sites_of, graph, edges}
 use Rattle.flow_laws.proofs.Counting.{target}
 use Rattle.flow_laws.proofs.Sizes.{HaveSizes, is_run, spanned, simple_size, plain_size, passed_length}
-use Rattle.flow_laws.proofs.Copies.{row_sizes, row_flows, list_length}
+use Rattle.flow_laws.proofs.Copies.{row_sizes, row_flows}
 use Rattle.flow_laws.proofs.Edges.{leaves_source}
 use Rattle.flow_laws.proofs.Turned.{copy_sizes}
 use Rattle.c_tree.specs.WellFormed.{WellFormed}

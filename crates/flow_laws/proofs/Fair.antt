@@ -4,7 +4,7 @@ use Rattle.c_tree.specs.declared.tree.Stmt.{Stmt, Row_of-Stmt, end_of-Stmt, more
 use Rattle.c_tree.specs.declared.tree.Stmt.TheVariants.{Empty, Scalar, Array, Assign, Call, Break, Continue, Return, If', While', Do', For', Group'}
 use Rattle.c_tree.specs.declared.program.Func.{Func}
 use Rattle.c_tree.specs.declared.program.Program.{Program}
-use Rattle.c_tree.specs.Layouts.{Shape, Layout, global_shapes}
+use Rattle.c_tree.specs.Layouts.{Shape, global_shapes}
 use Rattle.c_tree.specs.WellFormed.{Context, WellFormedStmt, WellFormedRow, WellFormedHeld, WellFormedSole, WellFormedList, WellFormedFuncs, WellFormed, is_initialiser, is_step}
 
 unfoldable mutual

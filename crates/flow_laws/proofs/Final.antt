@@ -1,24 +1,23 @@
 -- Runs are driven paths and back, for lists of edge numbers; there is one driven path at most; and caps.
-use Rattle.std.proofs.Common.{◌≡◌, ◌≤◌, ◌⊎◌, ℕ, zero, suc, ◌+◌, Bool, true, false, if◌then◌else◌, List, [], ◌∷◌, ◌++◌, map, Option, Some, None, refl, sym, ap, ◌∙◌, subst, arith}
+use Rattle.std.proofs.Common.{◌≡◌, ◌≤◌, ◌⊎◌, ℕ, zero, suc, ◌+◌, Bool, true, false, if◌then◌else◌, List, [], ◌∷◌, ◌++◌, map, Some, None, refl, sym, ap, ◌∙◌, subst, arith}
 use Rattle.std.specs.Prelude.{slice_get, ◌==◌}
-use Rattle.std.proofs.lemmas.Bool.{eqb-true, eq-eqb}
+use Rattle.std.proofs.lemmas.Bool.{eqb-true}
 use Rattle.c_tree.specs.declared.tree.Expr.{Expr}
 use Rattle.c_tree.specs.declared.program.Program.{Program}
 use Rattle.c_tree.specs.declared.program.Input.{Input}
 use Rattle.c_tree.specs.declared.program.Costs.{Costs}
 use Rattle.flow_laws.specs.declared.graph.Edge.{Edge}
-use Rattle.flow_laws.specs.declared.graph.Loop.{Loop}
 use Rattle.flow_laws.specs.Sites.{LoopCopy, Content, Entry, Exit, Simple, Test, Jump, Give, Enter, Missing, Land, Site}
-use Rattle.flow_laws.specs.Graphs.{graph, edges, enters, first_out, loops_at, loop_copies, loop_of, loops, positions}
-use Rattle.flow_laws.specs.Paths.{IsPath, times, count, cap_of, is_among, most_turns, Keeps, KeepsEach, keeps_from, price}
-use Rattle.flow_laws.specs.Driving.{Memory, start, Walks, Drives}
+use Rattle.flow_laws.specs.Graphs.{graph, edges, enters, first_out, loops_at, loop_copies, loop_of, positions}
+use Rattle.flow_laws.specs.Paths.{count, cap_of, is_among, Keeps, KeepsEach}
+use Rattle.flow_laws.specs.Driving.{Memory, start, Drives}
 use Rattle.flow_laws.specs.Claims.{EndsAt, DrivesPath, DrivesAt, Begins}
-use Rattle.flow_laws.proofs.Counting.{limit, turns, State, at, Driven, DrivenPath, first_state, hit, visits}
+use Rattle.flow_laws.proofs.Counting.{limit, turns, State, Driven, DrivenPath, first_state, hit, visits}
 use Rattle.flow_laws.proofs.Fair.{FuncsFair}
 use Rattle.flow_laws.proofs.Keeps.{KeepsBy, counter_keeps, keeps_counter}
 use Rattle.flow_laws.proofs.Turned.{AllTested, IsTested, TestIs, turned_at, graph_turned}
 use Rattle.flow_laws.proofs.Bounds.{Walked, IsLoopAt, DrivesEdges, drives_driven, driven_drives}
-use Rattle.flow_laws.proofs.Whole.{most, same_costs, caps_hold}
+use Rattle.flow_laws.proofs.Whole.{same_costs, caps_hold}
 use Rattle.flow_laws.proofs.Edges.{turn_number, among_number}
 use Rattle.flow_laws.proofs.Caps.{hit_same, most_is}
 use Rattle.flow_laws.proofs.Numbers.{Names, have_numbers, price_names, keeps_names}

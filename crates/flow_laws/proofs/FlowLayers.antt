@@ -12,7 +12,7 @@ use denote.Hole.Carrier.{hidden}
 use Rattle.c_tree.specs.Blocks.{begun, blocks, row_blocks, held_blocks, list_blocks}
 use Rattle.c_tree.specs.Blocks.{is_simple}
 use Rattle.c_tree.specs.Statements.{block, held}
-use Rattle.flow_laws.specs.Sites.{Jump, Give, Site, Position, Copy, Targets, times_as_often, one, head, with_next, body_of, call_size, call_sites, if_sites, while_sites, do_sites, for_sites, size, row_size, held_size, flow, row_flow, held_flow, list_size, list_flow}
+use Rattle.flow_laws.specs.Sites.{Jump, Give, Position, Copy, Targets, times_as_often, one, head, with_next, body_of, call_size, call_sites, if_sites, while_sites, do_sites, for_sites, size, row_size, held_size, flow, row_flow, held_flow, list_size, list_flow}
 use Rattle.flow_laws.proofs.Copies.{row_sizes, row_flows}
 
 row_is : (xs : List Stmt) (run : Bool) → row_blocks (hidden-the_row-Stmt-0 xs) run ≡ list_blocks xs run

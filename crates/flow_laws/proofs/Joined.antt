@@ -1,24 +1,22 @@
 -- Joining open ends gives the edges of the graph: each edge as often.
-use Rattle.std.proofs.Common.{◌≡◌, ℕ, zero, suc, ◌+◌, Bool, true, false, IsTrue, if◌then◌else◌, List, [], ◌∷◌, ◌++◌, length, Option, Some, None, refl, sym, ap, ◌∙◌, subst, arith, length-append}
+use Rattle.std.proofs.Common.{◌≡◌, ℕ, suc, ◌+◌, Bool, true, false, IsTrue, if◌then◌else◌, List, [], ◌∷◌, ◌++◌, length, Option, Some, None, refl, sym, ap, ◌∙◌, subst, arith}
 use Rattle.std.specs.Prelude.{slice_get}
 use Rattle.c_tree.specs.declared.tree.Expr.{Expr}
 use Rattle.c_tree.specs.declared.tree.Target.{Target}
 use Rattle.c_tree.specs.declared.program.BlockName.{BlockName}
 use Rattle.c_tree.specs.declared.tree.Stmt.{Stmt, Row_of-Stmt, end_of-Stmt, more_of-Stmt, Held-Stmt-For-1, None', Some'}
 use Rattle.c_tree.specs.declared.tree.Stmt.TheVariants.{Empty, Scalar, Array, Assign, Call, Break, Continue, Return, If', While', Do', For', Group'}
-use Rattle.c_tree.specs.Blocks.{is_simple, begun, blocks, row_blocks, held_blocks}
+use Rattle.c_tree.specs.Blocks.{is_simple, blocks, row_blocks, held_blocks}
 use Rattle.c_tree.specs.Statements.{block}
 use Rattle.c_tree.specs.WellFormed.{Context, WellFormedStmt, WellFormedRow, WellFormedHeld, WellFormedSole, is_initialiser, is_step}
-use Rattle.flow_laws.specs.declared.graph.Way.{Way}
 use Rattle.flow_laws.specs.declared.graph.Way.TheVariants.{Next, True, False}
 use Rattle.flow_laws.specs.declared.graph.Edge.{Edge}
-use Rattle.flow_laws.specs.Sites.{LoopCopy, Content, Land, Site, Position, Copy, Targets, times_as_often, one, asks, loop_at, head, with_next, body_of, past, flush, call_size, call_sites, if_sites, while_sites, do_sites, for_sites, size, row_size, held_size, flow, row_flow, held_flow}
-use Rattle.flow_laws.specs.Graphs.{leaves, outs, edges_from, all_to}
+use Rattle.flow_laws.specs.Sites.{Land, Site, Position, Copy, Targets, times_as_often, one, asks, loop_at, head, with_next, body_of, past, flush, call_size, call_sites, if_sites, while_sites, do_sites, for_sites, size, row_size, held_size, flow, row_flow, held_flow}
+use Rattle.flow_laws.specs.Graphs.{outs, edges_from, all_to}
 use Rattle.flow_laws.specs.Paths.{times}
 use Rattle.flow_laws.specs.OpenEnds.{End, Piece, end_at, join, through, joined, opened_simple, both, opened_if, opened_while, opened_do, opened_for, Opened, opened_call, opened, row_opened, held_opened}
-use Rattle.flow_laws.proofs.Sizes.{HaveSizes, is_run, spanned, head_plus, simple_size, plain_size, flow_length, row_length, held_length}
+use Rattle.flow_laws.proofs.Sizes.{HaveSizes, is_run, head_plus, simple_size, plain_size, flow_length, row_length, held_length}
 use Rattle.flow_laws.proofs.Parts.{head_self}
-use Rattle.flow_laws.proofs.Runs.{past_flush}
 
 -- ---- counting
 

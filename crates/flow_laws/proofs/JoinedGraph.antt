@@ -1,5 +1,5 @@
 -- Joining the open ends of a program gives the edges of its graph.
-use Rattle.std.proofs.Common.{◌≡◌, ℕ, zero, suc, ◌+◌, Bool, true, false, if◌then◌else◌, List, [], ◌∷◌, ◌++◌, length, Option, Some, None, refl, sym, ap, ◌∙◌, subst, arith}
+use Rattle.std.proofs.Common.{◌≡◌, ℕ, zero, suc, ◌+◌, Bool, false, List, [], ◌∷◌, ◌++◌, length, Option, Some, None, refl, sym, ap, ◌∙◌, subst, arith}
 use Rattle.std.specs.Prelude.{slice_get}
 use Rattle.c_tree.specs.declared.program.BlockName.{BlockName}
 use Rattle.c_tree.specs.declared.program.Func.{Func}
@@ -9,16 +9,16 @@ use Rattle.c_tree.specs.declared.tree.Stmt.TheBlock.{shape-the_row-Stmt-0, hidde
 use denote.Hole.Carrier.{hidden}
 use Rattle.c_tree.specs.Blocks.{is_simple}
 use Rattle.c_tree.specs.Layouts.{Shape, local_shapes, global_shapes}
-use Rattle.c_tree.specs.WellFormed.{Context, WellFormedStmt, WellFormedRow, WellFormedHeld, WellFormedSole, WellFormedList, WellFormedFunc, WellFormedFuncs, WellFormed}
+use Rattle.c_tree.specs.WellFormed.{Context, WellFormedStmt, WellFormedRow, WellFormedHeld, WellFormedSole, WellFormedList, WellFormedFuncs, WellFormed}
 use Rattle.flow_laws.specs.declared.graph.Way.TheVariants.{Next}
 use Rattle.flow_laws.specs.declared.graph.Edge.{Edge}
-use Rattle.flow_laws.specs.Sites.{Entry, Exit, Missing, Site, Position, Copy, one, head, size, row_size, list_size, list_flow}
-use Rattle.flow_laws.specs.Graphs.{outermost, leaves, all_to, copy_of, copies, sites_of, graph, edges_from, edges}
+use Rattle.flow_laws.specs.Sites.{Position, Copy, size}
+use Rattle.flow_laws.specs.Graphs.{all_to, copy_of, copies, sites_of, graph, edges_from, edges}
 use Rattle.flow_laws.specs.Paths.{times}
 use Rattle.flow_laws.specs.OpenEnds.{End, Piece, end_at, join, both, Opened, opened, row_opened, list_opened, all_opened, joined_whole, joined_edges}
 use Rattle.flow_laws.proofs.Sizes.{HaveSizes}
 use Rattle.flow_laws.proofs.Copies.{row_sizes, row_flows, list_length}
-use Rattle.flow_laws.proofs.Joined.{tally, tally_times, tally_append, tally_join, out, shut, Shuts, NoJumps, IsJoined, Paired, ArePaired, row_no_jumps, row_shuts}
+use Rattle.flow_laws.proofs.Joined.{tally, tally_times, tally_append, tally_join, Shuts, NoJumps, IsJoined, Paired, ArePaired, row_no_jumps, row_shuts}
 
 -- ---- a function's list
 

@@ -16,7 +16,7 @@ use Rattle.flow_laws.specs.declared.graph.Edge.{Edge}
 use Rattle.flow_laws.specs.Sites.{Content, Enter, Entry, Exit, Give, Jump, Land, Missing, Simple, Site, Test}
 use Rattle.flow_laws.specs.Graphs.{edges, edges_from, leaves, outs}
 use Rattle.flow_laws.specs.Driving.{Goes, Memory, Move, Stuck, act, all_simple, by_test, goes_with, land, memory}
-use Rattle.flow_laws.proofs.Counting.{Driven, Going, State, status, target, visits}
+use Rattle.flow_laws.proofs.Counting.{Driven, Going, State, status, target}
 use Rattle.flow_laws.specs.Paths.{cost_of_edge, price, times, after_turn, keeps_from}
 use Rattle.flow_laws.proofs.Bounds.{gone}
 use Rattle.flow_laws.proofs.Whole.{price_along}

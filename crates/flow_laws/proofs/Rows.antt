@@ -12,21 +12,21 @@ use Rattle.flow_laws.specs.declared.graph.Way.{Way as EdgeWay}
 use Rattle.flow_laws.specs.declared.graph.Way.TheVariants.{Next}
 use Rattle.flow_laws.specs.declared.graph.Edge.{Edge}
 use Rattle.flow_laws.specs.Sites.{Entry, Missing, head, Copy, Exit, LoopCopy, Site, one}
-use Rattle.flow_laws.specs.Graphs.{outermost, leaves, edges, enters, first_out, positions, copies, sites_of, graph, loop_copies, loop_of, loops}
+use Rattle.flow_laws.specs.Graphs.{outermost, leaves, edges, enters, first_out, copies, sites_of, graph, loop_copies, loop_of, loops}
 use Rattle.flow_laws.specs.Driving.{start, Walks, Stuck, Goes, Memory, Stays, act, start}
-use Rattle.flow_laws.proofs.Counting.{hit, trace_of, first_state, Driven, State, at, is_true_end, limit, target, turns}
-use Rattle.flow_laws.specs.Paths.{cap_of, IsPath, led, times, count, total, total_of, most_turns, leaving, arriving, after_turn, keeps_from}
+use Rattle.flow_laws.proofs.Counting.{hit, trace_of, first_state, State, at, is_true_end, limit, target, turns}
+use Rattle.flow_laws.specs.Paths.{cap_of, times, count, total, most_turns, leaving, arriving, after_turn, keeps_from}
 use Rattle.flow_laws.specs.Claims.{DrivesPath}
 use Rattle.flow_laws.proofs.Fair.{FuncsFair}
 use Rattle.flow_laws.proofs.Edges.{leaves_source, place_of}
-use Rattle.flow_laws.proofs.Numbers.{Names, times_names}
+use Rattle.flow_laws.proofs.Numbers.{times_names}
 use Rattle.flow_laws.proofs.Totals.{total_positions, total_names}
-use Rattle.flow_laws.proofs.Caps.{hit_same, hit_other}
+use Rattle.flow_laws.proofs.Caps.{hit_other}
 use Rattle.flow_laws.proofs.Steps.{not_enters}
 use Rattle.flow_laws.proofs.Turned.{TestIs, graph_turned}
 use Rattle.flow_laws.proofs.Bounds.{Walked, IsLoopAt, driven_walks, driven_keeps}
 use Rattle.flow_laws.proofs.Whole.{most, RunLeads, run_leads, run_leads_from, only_end}
-use Rattle.flow_laws.proofs.Final.{DrivenBy, AllOf, EachLoop, to_list, loop_at_node, turn_is, path_driven, driven_path, within_caps, ends_at_exit}
+use Rattle.flow_laws.proofs.Final.{DrivenBy, AllOf, to_list, loop_at_node, turn_is, path_driven, driven_path, within_caps, ends_at_exit}
 
 -- ---- a walk into Exit is one
 

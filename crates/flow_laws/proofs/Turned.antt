@@ -1,5 +1,5 @@
 -- Each loop's condition stands at its own number, inside the loop.
-use Rattle.std.proofs.Common.{◌≡◌, ℕ, zero, suc, ◌+◌, ◌-◌, ◌<◌, ◌≤◌, Bool, true, false, if◌then◌else◌, List, [], ◌∷◌, ◌++◌, length, Option, Some, None, refl, sym, ap, ◌∙◌, subst, arith}
+use Rattle.std.proofs.Common.{◌≡◌, ℕ, zero, suc, ◌+◌, ◌<◌, ◌≤◌, Bool, true, false, if◌then◌else◌, List, [], ◌∷◌, ◌++◌, length, Option, Some, None, refl, sym, ap, ◌∙◌, subst, arith}
 use Rattle.std.specs.Prelude.{slice_get}
 use Rattle.c_tree.specs.declared.tree.Expr.{Expr}
 use Rattle.c_tree.specs.declared.tree.Target.{Target}
@@ -12,7 +12,7 @@ use Rattle.c_tree.specs.declared.tree.Stmt.TheBlock.{hidden-the_row-Stmt-0}
 use Rattle.c_tree.specs.Blocks.{is_simple, blocks, row_blocks, held_blocks}
 use Rattle.c_tree.specs.Statements.{block}
 use Rattle.flow_laws.specs.Sites.{Position, times_as_often, list_flow, Content, Copy, Land, LoopCopy, Site, Targets, Test, asks, body_of, call_sites, do_sites, flow, flush, for_sites, head, held_flow, held_size, if_sites, list_flow, loop_at, one, past, row_flow, row_size, size, while_sites, with_next}
-use Rattle.flow_laws.specs.Graphs.{outermost, all_to, copy_of, copies, sites_of, graph}
+use Rattle.flow_laws.specs.Graphs.{all_to, copy_of, copies, sites_of, graph}
 use Rattle.flow_laws.proofs.Sizes.{HaveSizes, flow_length, row_length, held_length}
 use Rattle.flow_laws.proofs.Runs.{past_flush}
 use Rattle.flow_laws.proofs.Copies.{row_flows, list_length}

@@ -1,28 +1,19 @@
 -- The caps of a part's nodes are what one run of it can visit, times the scale of its place.
-use Rattle.std.proofs.Common.{◌≡◌, ℕ, zero, suc, ◌+◌, ◌*◌, Bool, true, false, if◌then◌else◌, List, [], ◌∷◌, ◌++◌, length, Option, Some, None, refl, sym, ap, ◌∙◌, subst, arith, length-append}
-use Rattle.std.specs.Prelude.{slice_get, unwrap_or, ◌==◌}
-use Rattle.std.proofs.lemmas.Bool.{eq-eqb, ne_eqb}
+use Rattle.std.proofs.Common.{◌≡◌, ℕ, suc, ◌+◌, ◌*◌, Bool, true, false, if◌then◌else◌, List, [], ◌∷◌, ◌++◌, length, Option, Some, None, refl, sym, ap, ◌∙◌, subst, arith}
+use Rattle.std.specs.Prelude.{slice_get}
 use Rattle.c_tree.specs.declared.tree.Expr.{Expr}
 use Rattle.c_tree.specs.declared.tree.Target.{Target}
 use Rattle.c_tree.specs.declared.program.BlockName.{BlockName}
-use Rattle.c_tree.specs.declared.program.Func.{Func}
-use Rattle.c_tree.specs.declared.program.Program.{Program}
 use Rattle.c_tree.specs.declared.tree.Stmt.{Stmt, Row_of-Stmt, end_of-Stmt, more_of-Stmt, Held-Stmt-For-1, None', Some'}
 use Rattle.c_tree.specs.declared.tree.Stmt.TheVariants.{Empty, Scalar, Array, Assign, Call, Break, Continue, Return, If', While', Do', For', Group'}
-use Rattle.c_tree.specs.declared.tree.Stmt.TheBlock.{hidden-the_row-Stmt-0}
 use Rattle.c_tree.specs.Blocks.{is_simple, blocks, row_blocks, held_blocks}
 use Rattle.c_tree.specs.Statements.{block}
-use Rattle.flow_laws.specs.Sites.{Entry, Exit, Missing, Land, Site, Position, Copy, Targets, times_as_often, one, head, with_next, body_of, past, flush, call_size, call_sites, asks, loop_at, if_sites, while_sites, do_sites, for_sites, size, row_size, held_size, flow, row_flow, held_flow, list_flow}
-use Rattle.flow_laws.specs.Graphs.{outermost, all_to, copy_of, copies, sites_of, graph}
-use Rattle.flow_laws.specs.Paths.{cap_of}
+use Rattle.flow_laws.specs.Sites.{Land, Site, Position, Copy, Targets, times_as_often, one, head, with_next, body_of, past, flush, call_sites, asks, loop_at, if_sites, while_sites, do_sites, for_sites, size, row_size, held_size, flow, row_flow, held_flow}
 use Rattle.flow_laws.proofs.Counting.{hit}
-use Rattle.flow_laws.proofs.Once.{Onces, begun_once, call_once, once, row_once, held_once}
+use Rattle.flow_laws.proofs.Once.{Onces, call_once, once, row_once, held_once}
 use Rattle.flow_laws.proofs.Sizes.{HaveSizes, is_run, flow_length, row_length, held_length, plain_size, simple_size}
 use Rattle.flow_laws.proofs.Parts.{pending_sum}
 use Rattle.flow_laws.proofs.Lists.{simple_once, plain_once}
-use Rattle.flow_laws.proofs.Runs.{past_flush}
-use Rattle.flow_laws.proofs.Copies.{row_flows, row_onces, list_length, copy_once, once_at, all_once, onces}
-use Rattle.flow_laws.proofs.Whole.{most}
 
 -- the cap of the node x in a list of sites from n on
 abbrev pub weigh : ℕ → ℕ → List Site → ℕ

@@ -16,7 +16,7 @@ use Rattle.flow_laws.specs.declared.graph.Way.TheVariants.{Next}
 use Rattle.flow_laws.specs.declared.graph.Edge.{Edge}
 use Rattle.flow_laws.specs.Sites.{Copy, Entry, Exit, Missing, Site, head, one}
 use Rattle.flow_laws.specs.Graphs.{outermost, copies, sites_of, graph}
-use Rattle.flow_laws.specs.Driving.{start, slots_of, Memory, memory, slots_of, start}
+use Rattle.flow_laws.specs.Driving.{start, slots_of, memory, slots_of, start}
 use Rattle.flow_laws.proofs.Counting.{listed, DrivenPath, first_state, Nowhere, Going, Arrived, Broken, Counters, Driven, State, Status, Undefined_, at, blocks_at, hit, passed, status, status_at, trace_of, visits}
 use Rattle.flow_laws.specs.Paths.{cost_of_block, cost_of_site}
 use Rattle.flow_laws.proofs.Steps.{driven_append, trace_append, one_end, IsLast}

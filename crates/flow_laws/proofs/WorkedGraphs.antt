@@ -6,7 +6,7 @@ use Rattle.c_tree.specs.declared.tree.Stmt.TheVariants.{Call}
 use Rattle.c_tree.specs.Statements.{block}
 use Rattle.c_tree.specs.Worked.{two_thresholds, two_thresholds_costs, overflow_guard, triangular_loops, local, initialised_by_call, missing_result}
 use Rattle.flow_laws.specs.Graphs.{graph, edges, loops}
-use Rattle.flow_laws.specs.Paths.{led, follows, count, price, edge_cost, keeps}
+use Rattle.flow_laws.specs.Paths.{led, follows, price, edge_cost, keeps}
 use Rattle.flow_laws.specs.WorkedGraphs.{next, when, unless, loop, do_loop, blocks_of, chains_of, caps_of}
 use Rattle.flow_laws.specs.WorkedGraphs.{empty_main, groups_and_rest, empty_for, empty_while, empty_do, nested_do}
 use Rattle.flow_laws.specs.WorkedGraphs.{jumps_in_while, jumps_in_do, jumps_in_for, jumps_without_step, end_is_reached, nested_calls}

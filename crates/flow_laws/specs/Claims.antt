@@ -1,6 +1,6 @@
 -- What is claimed of a program's paths: they are its runs, an input drives one of them, and counts are bounded. This project's own; the
 -- bounds on counts are those of implicit path enumeration (Li and Malik).
-use Rattle.std.specs.Prelude.{◌≡◌, ◌⊎◌, ℕ, List, ◌++◌}
+use Rattle.std.specs.Prelude.{◌≡◌, ℕ, List, ◌++◌}
 use Rattle.c_tree.specs.declared.program.BlockName.{BlockName}
 use Rattle.c_tree.specs.declared.program.Program.{Program}
 use Rattle.c_tree.specs.declared.program.Input.{Input}

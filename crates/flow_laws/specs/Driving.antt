@@ -1,6 +1,6 @@
 -- Driving: which lists of edges an input takes from Entry on. The statements of each source are defined, the guard of each edge holds, and
 -- each loop keeps its bound (statements as in C11 6.8; the bounds are this project's own).
-use Rattle.std.specs.Prelude.{◌≡◌, ℕ, Bool, if◌then◌else◌, List, [], ◌∷◌, length, drop, slice_get, Option, Some, None, option_and_then, option_map}
+use Rattle.std.specs.Prelude.{◌≡◌, ℕ, if◌then◌else◌, List, [], ◌∷◌, length, drop, slice_get, Option, Some, None, option_and_then, option_map}
 use Rattle.c_tree.specs.declared.tree.Stmt.{Stmt}
 use Rattle.c_tree.specs.declared.tree.Expr.{Expr}
 use Rattle.c_tree.specs.declared.tree.Target.{Target}

@@ -1,18 +1,15 @@
 -- Worked graphs. In the text beside a program its loops' bounds stand in brackets.
-use Rattle.std.specs.Prelude.{ℕ, Bool, true, false, List, [], ◌∷◌, map, Option, Some, None}
+use Rattle.std.specs.Prelude.{ℕ, true, false, List, [], ◌∷◌, map, Option, Some, None}
 use Rattle.c_tree.specs.declared.tree.BinOp.TheVariants as bin
 use Rattle.c_tree.specs.declared.tree.Target.TheVariants as target
-use Rattle.c_tree.specs.declared.tree.Expr.{Expr}
 use Rattle.c_tree.specs.declared.tree.Expr.TheVariants.{Bin}
 use Rattle.c_tree.specs.declared.tree.Stmt.{Stmt}
-use Rattle.c_tree.specs.declared.tree.Stmt.TheVariants.{Scalar, Call, Break, Continue, Return, If, While, Do, For, Group}
+use Rattle.c_tree.specs.declared.tree.Stmt.TheVariants.{Call, Break, Continue, If, While, Do, For, Group}
 use Rattle.c_tree.specs.declared.program.BlockName.{BlockName}
 use Rattle.c_tree.specs.declared.program.Program.{Program}
-use Rattle.c_tree.specs.Statements.{block}
 use Rattle.c_tree.specs.Worked.{num, local, sets, counts, declares, returns, func_of, main_of}
 use Rattle.flow_laws.specs.declared.graph.Way.TheVariants.{Next, True, False}
 use Rattle.flow_laws.specs.declared.graph.Edge.{Edge}
-use Rattle.flow_laws.specs.declared.graph.Node.{Node}
 use Rattle.flow_laws.specs.declared.graph.Loop.{Loop}
 use Rattle.flow_laws.specs.Graphs.{leaves, graph, nodes}
 
