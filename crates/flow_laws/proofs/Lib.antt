@@ -27,3 +27,4 @@ pub mod FlowLayers
 pub mod Ends
 pub mod Joined
 pub mod JoinedGraph
+pub mod CapSums

@@ -63,6 +63,15 @@ abbrev pub cap_of : Option Site → ℕ
 cap_of None = 0
 cap_of (Some s) = s.node.cap
 
+-- the sum of the caps of the block copies
+abbrev pub cap_of_copy : Option BlockName → ℕ → ℕ
+cap_of_copy None cap = 0
+cap_of_copy (Some b) cap = cap
+
+abbrev pub copy_caps : List Site → ℕ
+copy_caps [] = 0
+copy_caps (s ∷ g) = cap_of_copy s.node.block s.node.cap + copy_caps g
+
 -- ---- bounds of loops
 
 abbrev pub is_among : ℕ → List ℕ → Bool

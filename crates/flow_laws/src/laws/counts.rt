@@ -1,15 +1,16 @@
 //! How often a driven path takes each edge: what the rows of implicit path enumeration say (Li and Malik).
 
-ghost use Rattle.std.specs.Prelude.{◌≡◌, ◌≤◌, ℕ, ◌*◌, List, slice_get, Some};
+ghost use Rattle.std.specs.Prelude.{[], ◌≡◌, ◌≤◌, ℕ, ◌*◌, List, slice_get, Some};
 ghost use Rattle.c_tree.specs.declared.program.Program.{Program};
 ghost use Rattle.c_tree.specs.declared.program.Input.{Input};
 ghost use Rattle.c_tree.specs.declared.program.Costs.{Costs};
+ghost use Rattle.c_tree.specs.Spans.{span_at, spans};
 ghost use Rattle.c_tree.specs.WellFormed.{WellFormed};
 ghost use Rattle.flow_laws.specs.Sites.{Site};
 ghost use Rattle.flow_laws.specs.declared.graph.Edge.{Edge};
 ghost use Rattle.flow_laws.specs.declared.graph.Loop.{Loop};
 ghost use Rattle.flow_laws.specs.Graphs.{graph, edges, loops};
-ghost use Rattle.flow_laws.specs.Paths.{count, total, leaving, arriving, cap_of, most_turns, price, worth};
+ghost use Rattle.flow_laws.specs.Paths.{count, total, leaving, arriving, cap_of, most_turns, price, worth, copy_caps};
 ghost use Rattle.flow_laws.specs.Claims.{DrivesPath};
 
 /// A driven path takes each edge at most as often as the cap of the edge's source.
@@ -37,4 +38,9 @@ pub fn counts_are_conserved()
 /// The price of a list is the sum of the edges' costs times their counts.
 pub fn prices_are_sums_over_counts()
     ensures { (t : Costs) (g : List Site) (q : List ℕ) → price t g q ≡ worth t g q }
+{}
+
+/// The caps of the block copies sum to the span of the entry function.
+pub fn caps_sum_to_the_span()
+    ensures { (p : Program) → copy_caps (graph p) ≡ span_at (spans [] p.funcs) p.entry }
 {}
