@@ -13,7 +13,7 @@ use denote.Hole.Carrier.{hidden}
 use Rattle.c_tree.specs.Blocks.{is_simple, blocks, row_blocks, held_blocks}
 use Rattle.c_tree.specs.Spans.{span_at, begun_span, span, row_span, held_span, list_span, func_span, spans}
 use Rattle.c_tree.specs.Statements.{block}
-use Rattle.flow_laws.specs.Sites.{Land, Site, Position, Copy, Targets, times_as_often, one, asks, loop_at, head, with_next, body_of, past, flush, call_sites, if_sites, while_sites, do_sites, for_sites, size, row_size, held_size, flow, row_flow, held_flow, list_flow}
+use Rattle.flow_laws.specs.Sites.{Land, Site, Position, Copy, Targets, times_as_often, one, asks, loop_at, head, with_next, body_of, past, flush, call_sites, for_sites, size, row_size, held_size, flow, row_flow, held_flow, list_flow}
 use Rattle.flow_laws.specs.Graphs.{all_to, copy_of, copies, sites_of, graph}
 use Rattle.flow_laws.specs.Paths.{copy_caps}
 use Rattle.flow_laws.proofs.Sizes.{is_run}

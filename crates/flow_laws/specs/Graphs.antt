@@ -25,7 +25,7 @@ abbrev pub copies : List Copy → List Func → List Copy
 copies cs [] = cs
 copies cs (f ∷ fs) = copies (cs ++ copy_of (length cs) f cs ∷ []) fs
 
--- the place of the entry function, which is reached once
+-- where Entry and Exit stand: in no call, and reached once. (They have no block, so the function is of no account)
 abbrev pub outermost : Position
 outermost = record { func = 0; chain = []; scale = 1 }
 
@@ -88,6 +88,7 @@ abbrev pub positions : ℕ → (Edge → Bool) → List Edge → List ℕ
 positions i p [] = []
 positions i p (e ∷ q) = if p e then i ∷ positions (i + 1) p q else positions (i + 1) p q
 
+-- `into` are the edges that lead into the loop from outside, `turn` is the `True` of its condition, which has that node's first number
 abbrev pub loop_of : List Site → LoopCopy → Loop
 loop_of g l =
     record { bound = l.bound; into = positions 0 (enters l) (edges g); turn = first_out g l.test; at_end = l.at_end }

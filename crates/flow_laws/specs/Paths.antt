@@ -98,6 +98,7 @@ after_turn None go = go None
 after_turn (Some zero) go = false
 after_turn (Some (suc n)) go = go (Some n)
 
+-- `en` chooses the edges of `into` and `tu` those of `turn`; an edge of `into` starts the counter anew
 abbrev pub keeps_from : {A : Type 0} → (A → Bool) → (A → Bool) → ℕ → Option ℕ → List A → Bool
 keeps_from en tu most left [] = true
 keeps_from en tu most left (e ∷ q) =
