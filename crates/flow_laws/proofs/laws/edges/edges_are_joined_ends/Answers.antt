@@ -1,0 +1,5 @@
+use Rattle.flow_laws.proofs.laws.edges.edges_are_joined_ends.Goals as goal
+use Rattle.flow_laws.proofs.JoinedGraph.{same_edges}
+
+pub returns : goal.returns
+returns c = same_edges

@@ -1,0 +1,7 @@
+pub mod Sites
+pub mod Graphs
+pub mod Paths
+pub mod Driving
+pub mod Claims
+pub mod OpenEnds
+pub mod WorkedGraphs

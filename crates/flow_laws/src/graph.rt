@@ -1,0 +1,41 @@
+//! The parts of a flat graph.
+
+use c_tree::BlockName;
+use sqlite_items::Items;
+
+/// How an edge leaves its source: as what comes next, or as a condition that holds or does not.
+#[derive(Clone, Copy, Debug, PartialEq, Eq)]
+pub enum Way {
+    Next,
+    True,
+    False,
+}
+
+/// An edge, from the number of a node to that of a node. Edges are numbered by their sources, `True` before `False`.
+#[derive(Clone, Copy, Debug, PartialEq, Eq)]
+pub struct Edge {
+    pub from: u32,
+    pub to: u32,
+    pub way: Way,
+}
+
+/// A node. `block` is the block that it is a copy of; Entry, Exit and landings have none. `chain` has the call blocks in
+/// whose callees' copies it stands, outermost first. `cap` is how often it can be left while all bounds are kept: its scale
+/// with calls inlined, which for Entry, Exit and landings is that of their place.
+#[derive(Drop)]
+pub struct Node {
+    pub block: Option<BlockName>,
+    pub chain: Items<BlockName>,
+    pub cap: u64,
+}
+
+/// A copy of a loop. `bound` is how often its body may be entered within one entry of the loop. `into` has the numbers of the
+/// edges that enter it from outside, in ascending order; `turn` is the number of the `True` of its condition. `at_end` tells
+/// `do`, whose body is entered once before its condition is evaluated.
+#[derive(Drop)]
+pub struct Loop {
+    pub bound: u32,
+    pub into: Items<u16>,
+    pub turn: u16,
+    pub at_end: bool,
+}

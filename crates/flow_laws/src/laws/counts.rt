@@ -1,0 +1,46 @@
+//! How often a driven path takes each edge: what the rows of implicit path enumeration say (Li and Malik).
+
+ghost use Rattle.std.specs.Prelude.{[], ◌≡◌, ◌≤◌, ℕ, ◌*◌, List, slice_get, Some};
+ghost use Rattle.c_tree.specs.declared.program.Program.{Program};
+ghost use Rattle.c_tree.specs.declared.program.Input.{Input};
+ghost use Rattle.c_tree.specs.declared.program.Costs.{Costs};
+ghost use Rattle.c_tree.specs.Spans.{span_at, spans};
+ghost use Rattle.c_tree.specs.WellFormed.{WellFormed};
+ghost use Rattle.flow_laws.specs.Sites.{Site};
+ghost use Rattle.flow_laws.specs.declared.graph.Edge.{Edge};
+ghost use Rattle.flow_laws.specs.declared.graph.Loop.{Loop};
+ghost use Rattle.flow_laws.specs.Graphs.{graph, edges, loops};
+ghost use Rattle.flow_laws.specs.Paths.{count, total, leaving, arriving, cap_of, most_turns, price, worth, copy_caps};
+ghost use Rattle.flow_laws.specs.Claims.{DrivesPath};
+
+/// A driven path takes each edge at most as often as the cap of the edge's source.
+pub fn counts_are_within_caps()
+    ensures { (p : Program) (i : Input) (q : List ℕ) → WellFormed p → DrivesPath p i q
+        → (j : ℕ) (e : Edge) → slice_get (edges (graph p)) j ≡ Some e
+        → count q j ≤ cap_of (slice_get (graph p) e.from) }
+{}
+
+/// On a driven path, the count of a loop copy's `turn` is at most the loop's bound times the count of its `into`; of `do` the
+/// bound less one.
+pub fn turns_are_bounded()
+    ensures { (p : Program) (i : Input) (q : List ℕ) → WellFormed p → DrivesPath p i q
+        → (k : ℕ) (l : Loop) → slice_get (loops (graph p)) k ≡ Some l
+        → count q l.turn ≤ most_turns l * total q l.into }
+{}
+
+/// On a driven path, edge 0 is taken once, and from each node from 2 on as many edges leave as lead to it.
+pub fn counts_are_conserved()
+    ensures entry { (p : Program) (i : Input) (q : List ℕ) → WellFormed p → DrivesPath p i q → count q 0 ≡ 1 }
+    ensures nodes { (p : Program) (i : Input) (q : List ℕ) → WellFormed p → DrivesPath p i q
+        → (n : ℕ) → 2 ≤ n → leaving (edges (graph p)) q n ≡ arriving (edges (graph p)) q n }
+{}
+
+/// The price of a list is the sum of the edges' costs times their counts.
+pub fn prices_are_sums_over_counts()
+    ensures { (t : Costs) (g : List Site) (q : List ℕ) → price t g q ≡ worth t g q }
+{}
+
+/// The caps of the block copies sum to the span of the entry function.
+pub fn caps_sum_to_the_span()
+    ensures { (p : Program) → copy_caps (graph p) ≡ span_at (spans [] p.funcs) p.entry }
+{}
