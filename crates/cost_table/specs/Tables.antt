@@ -49,14 +49,18 @@ number_fault ms =
     if unwrap_or (option_map (λ d. is_none (cost_in d)) (default ms)) false then Some (Number (codes "default"))
     else option_map Number (first_key (λ key d. is_none (cost_in d)) (entries ms))
 
--- the first name without an entry
+-- the first of the names that has no entry
 abbrev pub first_without : Members → List (List ℕ) → Option (List ℕ)
 first_without es [] = None
 first_without es (name ∷ rest) = if is_some (get_member name es) then first_without es rest else Some name
 
+-- the same, where there is no `default`
+abbrev pub first_missing : Members → List (List ℕ) → Option (List ℕ)
+first_missing ms ns = if is_some (default ms) then None else first_without (entries ms) ns
+
 -- there is no `default`, and a block has no entry
 abbrev pub missing_fault : List Func → Members → Option CostFault
-missing_fault fs ms = if is_some (default ms) then None else option_map Missing (first_without (entries ms) (names fs))
+missing_fault fs ms = option_map Missing (first_missing ms (names fs))
 
 -- ---- the verdict
 
@@ -70,9 +74,13 @@ abbrev pub fault_of : List Func → Members → Option CostFault
 fault_of fs ms =
     first_fault (version_fault ms ∷ key_fault ms ∷ block_fault fs ms ∷ number_fault ms ∷ missing_fault fs ms ∷ [])
 
--- a block's entry, or else `default`. Where there is no fault, it has one of them
+-- a block's entry, or else `default`
+abbrev pub given : Members → List ℕ → Option ℕ
+given ms name = option_and_then cost_in (option_or (get_member name (entries ms)) (default ms))
+
+-- a block's cost. Where there is no fault, one is given
 abbrev pub cost_of : Members → List ℕ → ℕ
-cost_of ms name = unwrap_or (option_and_then cost_in (option_or (get_member name (entries ms)) (default ms))) 0
+cost_of ms name = unwrap_or (given ms name) 0
 
 -- a list for each function in order, with the cost of each of its blocks
 abbrev pub costs_of : List Func → Members → Costs

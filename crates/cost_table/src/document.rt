@@ -1,6 +1,6 @@
 //! The document of a table, and what its keys hold.
 
-ghost use Rattle.std.specs.Prelude.{◌≡◌, ◌≢◌, Some, None, false, option_map, option_and_then, unwrap_or, IfOk, IfErr, codes};
+ghost use Rattle.std.specs.Prelude.{◌≡◌, ◌≢◌, Some, None, false, option_map, option_and_then, unwrap_or, IfOk, IfErr, OnSome, IsUtf8, codes};
 ghost use Rattle.toml.specs.Data.{as_table, get_member};
 ghost use Rattle.toml.specs.View.{view, table_view};
 ghost use Rattle.cost_table.specs.Documents as spec;
@@ -66,9 +66,10 @@ pub(crate) fn cost_table(document: &Table) -> Option<&Table>
     }
 }
 
-/// The entry of this name in the table `cost`.
+/// The entry of this name in the table `cost`. Its name is a text.
 pub(crate) fn entry<'a>(document: &'a Table, name: &[u8]) -> Option<&'a Value>
-    ensures { option_map (λ v. view v.now) result ≡ get_member name.now (spec.entries (table_view document.now)) }
+    ensures text { OnSome result (IsUtf8 name.now) }
+    ensures value { option_map (λ v. view v.now) result ≡ get_member name.now (spec.entries (table_view document.now)) }
 {
     let entries = cost_table(document)?;
     match std::str::from_utf8(name) {

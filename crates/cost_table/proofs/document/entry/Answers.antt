@@ -5,8 +5,8 @@ use Rattle.cost_table.specs.Documents.{entries}
 use Rattle.cost_table.proofs.Reading.{no_text_no_key}
 use Rattle.cost_table.proofs.document.entry.Goals as goal
 
-pub returns-in-Err : goal.returns-in-Err
-returns-in-Err c =
+pub returns-in-Err-clause-value : goal.returns-in-Err-clause-value
+returns-in-Err-clause-value c =
     let none = no_text_no_key c.args.name.now c.in_ok-entries.entries.now.entries c.in-Err.ensures.cases.0 in
     let table : entries (table_view c.args.document.now) ≡ table_view c.in_ok-entries.entries.now = ap (λ ms. unwrap_or ms no_members) (sym c.in_ok-entries.ensures) in
     sym (rw table none)
