@@ -1,3 +1,5 @@
 pub mod Reading
 pub mod FirstKeys
 pub mod KnownNames
+pub mod Entries
+pub mod BlockCosts
