@@ -32,8 +32,8 @@ pub added : (es : Members) (name key : List ℕ) (was : Bool) → is_some (get_m
 added es name key was has =
     rw (same_bytes name key) (elim (cases_Bool (bytes_eq key name)) [
       | inl same ↦
-        let here : is_some (get_member key es) ≡ true = subst (λ k. is_some (get_member k es) ≡ true) (sym ((bytes_eq-Decides key name).0 same)) has in
-        rw (same, here) (sym (or_right was true refl))
+          let here : is_some (get_member key es) ≡ true = subst (λ k. is_some (get_member k es) ≡ true) (sym ((bytes_eq-Decides key name).0 same)) has in
+          rw (same, here) (sym (or_right was true refl))
       | inr other ↦ rw other (or_false was)
     ])
 

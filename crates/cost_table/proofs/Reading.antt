@@ -42,5 +42,5 @@ pub no_text_no_key : (name : List ℕ) (es : List (String Global × Value)) → 
 no_text_no_key name [] other = refl
 no_text_no_key name (e ∷ es) other =
     let differs : slice_cmp nat_cmp name (string_bytes e.0) ≡ Equal → ⊥ =
-      λ same. ∥∥₁_elim e.0.ok (hlevel) (λ text. other (subst IsUtf8 (sym (equal_is name (string_bytes e.0) same)) text)) in
+    λ same. ∥∥₁_elim e.0.ok (hlevel) (λ text. other (subst IsUtf8 (sym (equal_is name (string_bytes e.0) same)) text)) in
     rw (no_text_no_key name es other) (not_equal _ _ differs)

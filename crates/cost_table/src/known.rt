@@ -51,11 +51,7 @@ fn add_names(
 }
 
 // Adds a name, where it has an entry.
-fn add_name(
-    known: &mut BTreeSet<String>,
-    document: &Table,
-    name: Vec<u8>,
-) -> Result<(), NoMemory>
+fn add_name(known: &mut BTreeSet<String>, document: &Table, name: Vec<u8>) -> Result<(), NoMemory>
     ensures { OnOk result ((key : List ℕ) →
         contains_text known.new key ≡ (contains_text known.old key || (bytes_eq key name.items && is_some (get_member key (entries (table_view document.now)))))) }
 {

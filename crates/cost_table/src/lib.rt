@@ -11,3 +11,6 @@ mod table;
 
 pub use fault::CostFault;
 pub use table::{costs, plain_costs};
+
+#[cfg(test)]
+mod tests;

@@ -15,7 +15,11 @@ use std::alloc::Global;
 use toml::Table;
 
 /// A list for each function, with the cost of each of its blocks.
-pub(crate) fn rows(alloc: Global, funcs: &[Func], document: &Table) -> Result<Items<Items<u32>>, CostFault>
+pub(crate) fn rows(
+    alloc: Global,
+    funcs: &[Func],
+    document: &Table,
+) -> Result<Items<Items<u32>>, CostFault>
     requires { spec.number_fault (table_view document.now) ≡ None }
     ensures costs { IfOk result (λ rows. rows ≡ map (λ (f : Func). map (spec.cost_of (table_view document.now)) (spec.names_of f)) funcs.now) }
     ensures whole { OnOk result (spec.missing_fault funcs.now (table_view document.now) ≡ None) }

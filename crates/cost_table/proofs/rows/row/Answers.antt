@@ -18,5 +18,5 @@ loop-number-preserved c =
     let there : given ms c.in_ok-name.name.items ≡ Some c.in-Some.cost = ap (given ms) (sym c.as_slice.ensures.value) ∙ sym c.given.ensures ∙ c.in-Some.is in
     record {
       found = block_costs ms c.args.func.now _ _ _ _ _ _ _ c.loop-number-test.true c.in_ok-name.ensures there c.in_ok-push.ensures.ok c.loop-number.invariant.found;
-      missing = block_not_missing ms c.args.func.now _ _ _ _ c.loop-number-test.true c.in_ok-name.ensures there c.loop-number.invariant.missing
+      missing = block_not_missing ms c.args.func.now _ _ _ _ c.loop-number-test.true c.in_ok-name.ensures there c.loop-number.invariant.missing;
     }

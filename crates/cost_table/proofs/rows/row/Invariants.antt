@@ -8,7 +8,7 @@ use Rattle.cost_table.proofs.rows.row.Given as goal
 abbrev pub invariant-loop-number : goal.invariant-loop-number
 invariant-loop-number l = record {
   found : l.row ++ map (cost_of (table_view l.document)) (map (block_name l.func.name) (range_with_len l.number (l.count - l.number)))
-    ≡ map (cost_of (table_view l.document)) (names_of l.func);
+      ≡ map (cost_of (table_view l.document)) (names_of l.func);
   missing : first_missing (table_view l.document) (map (block_name l.func.name) (range_with_len l.number (l.count - l.number)))
-    ≡ first_missing (table_view l.document) (names_of l.func)
+      ≡ first_missing (table_view l.document) (names_of l.func);
 }

@@ -13,5 +13,5 @@ loop-func-preserved c =
     let ms = table_view c.args.document.now in
     record {
       made = func_costs ms c.args.funcs.now _ c.func-item.result _ _ _ _ c.loop-func-test.true c.func-item.is c.in_ok-row.ensures.costs c.in_ok-push.ensures.ok c.loop-func.invariant.made;
-      missing = func_not_missing ms c.args.funcs.now _ c.func-item.result c.loop-func-test.true c.func-item.is c.in_ok-row.ensures.whole c.loop-func.invariant.missing
+      missing = func_not_missing ms c.args.funcs.now _ c.func-item.result c.loop-func-test.true c.func-item.is c.in_ok-row.ensures.whole c.loop-func.invariant.missing;
     }

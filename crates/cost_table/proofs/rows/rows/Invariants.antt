@@ -8,6 +8,6 @@ use Rattle.cost_table.proofs.rows.rows.Given as goal
 abbrev pub invariant-loop-func : goal.invariant-loop-func
 invariant-loop-func l = record {
   made : l.rows ++ map (λ (f : Func). map (cost_of (table_view l.document)) (names_of f)) (drop l.func-index l.funcs)
-    ≡ map (λ (f : Func). map (cost_of (table_view l.document)) (names_of f)) l.funcs;
-  missing : first_missing (table_view l.document) (names (drop l.func-index l.funcs)) ≡ first_missing (table_view l.document) (names l.funcs)
+      ≡ map (λ (f : Func). map (cost_of (table_view l.document)) (names_of f)) l.funcs;
+  missing : first_missing (table_view l.document) (names (drop l.func-index l.funcs)) ≡ first_missing (table_view l.document) (names l.funcs);
 }

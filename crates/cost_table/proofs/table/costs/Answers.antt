@@ -8,5 +8,5 @@ use Rattle.cost_table.proofs.table.costs.Goals as goal
 pub returns-clause-costs : goal.returns-clause-costs
 returns-clause-costs c =
     IfOk-weaker c.document_costs.result _ _
-      (λ t is. record { rows = subst (λ fs. AreRowsOf fs t.by_func) c.as_slice.ensures (verdict_costs (table_view c.in_ok-document.document) c.as_slice.result.now t is) })
-      c.document_costs.ensures.table
+    (λ t is. record { rows = subst (λ fs. AreRowsOf fs t.by_func) c.as_slice.ensures (verdict_costs (table_view c.in_ok-document.document) c.as_slice.result.now t is) })
+    c.document_costs.ensures.table
