@@ -1,21 +1,20 @@
 -- The costs of blocks, name by name and function by function.
-use Rattle.std.proofs.Common.{◌≡◌, ℕ, ◌+◌, ◌-◌, ◌<◌, drop, get_or, suc, append_assoc, add-one, Bool, true, false, not, List, [], ◌∷◌, ◌++◌, map, replicate, length, Option, Some, None, Result, Ok, Err, option_map, if◌then◌else◌, refl, sym, ap, subst, ◌∙◌}
+use Rattle.std.proofs.Common.{◌≡◌, ℕ, ◌+◌, ◌-◌, ◌<◌, drop, get_or, suc, append_assoc, add-one, Bool, true, false, List, [], ◌∷◌, ◌++◌, map, replicate, length, Option, Some, None, Ok, option_map, if◌then◌else◌, refl, sym, ap, subst, ◌∙◌}
 use Rattle.std.proofs.Math.Seq.{drop-cons}
-use Rattle.std.specs.Prelude.{is_some, is_none, option_and_then, unwrap_or, codes}
+use Rattle.std.specs.Prelude.{is_some, is_none, option_and_then, unwrap_or}
 use Rattle.std.specs.Option.{option_or}
 use Rattle.std.specs.List.{range_with_len}
 use Rattle.std.proofs.lemmas.List.{length-map, length-replicate}
 use Rattle.std.proofs.lemmas.List.FromFn.{length-map-range_with_len}
 use Rattle.toml.specs.Data.{Data, Members, get_member}
 use Rattle.c_tree.specs.declared.program.Func.{Func}
-use Rattle.c_tree.specs.declared.program.Program.{Program}
 use Rattle.c_tree.specs.declared.program.Costs.{Costs}
 use Rattle.c_tree.specs.Blocks.{list_blocks}
-use Rattle.c_tree.specs.Claims.{AreRowsOf, AreCostsOf}
+use Rattle.c_tree.specs.Claims.{AreRowsOf}
 use Rattle.cost_table.specs.declared.fault.CostFault.{CostFault}
 use Rattle.cost_table.specs.declared.fault.CostFault.TheVariants.{Number, Missing}
-use Rattle.cost_table.specs.Documents.{document, default, entries, cost_in, first_key}
-use Rattle.cost_table.specs.Tables.{block_name, names_of, names, first_without, first_missing, number_fault, given, cost_of, costs_of, fault_of, judged, document_verdict, verdict, plain}
+use Rattle.cost_table.specs.Documents.{default, entries, cost_in}
+use Rattle.cost_table.specs.Tables.{block_name, names_of, names, first_without, first_missing, number_fault, given, cost_of, costs_of, fault_of, judged}
 use Rattle.cost_table.proofs.Entries.{none_fails}
 use Rattle.cost_table.proofs.KnownNames.{range_left}
 

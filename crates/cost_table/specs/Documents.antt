@@ -1,5 +1,5 @@
 -- The document that a table's bytes spell, and what its keys hold. What TOML is, `toml` says. The three keys are this project's own.
-use Rattle.std.specs.Prelude.{◌==◌, ◌||◌, codes, ℕ, pos, List, Bool, true, false, not, if◌then◌else◌, Option, Some, None, is_none, option_and_then, unwrap_or}
+use Rattle.std.specs.Prelude.{◌==◌, ◌||◌, codes, ℕ, pos, List, Bool, false, not, if◌then◌else◌, Option, Some, None, is_none, option_and_then, unwrap_or}
 use Rattle.std.specs.Bool.{nat_le}
 use Rattle.std.specs.Ordering.{nat_cmp, is_gt}
 use Rattle.std.specs.Cmp.Lexicographic.{slice_cmp}

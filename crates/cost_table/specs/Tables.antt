@@ -1,9 +1,9 @@
 -- What a table of costs says of a program: its first fault, or the costs. This project's own.
-use Rattle.std.specs.Prelude.{◌++◌, codes, decimal, ℕ, Bool, false, map, List, [], ◌∷◌, not, if◌then◌else◌, Option, Some, None, is_some, is_none, option_map, option_and_then, unwrap_or, Result, Ok, Err, replicate}
+use Rattle.std.specs.Prelude.{◌≡◌, ◌++◌, codes, decimal, ℕ, Bool, false, map, List, [], ◌∷◌, not, if◌then◌else◌, Option, Some, None, is_some, is_none, option_map, option_and_then, unwrap_or, Result, Ok, Err, replicate}
 use Rattle.std.specs.Option.{option_or}
 use Rattle.std.specs.List.{list_any, flat_map, range_with_len}
 use Rattle.std.specs.Str.{bytes_eq}
-use Rattle.toml.specs.Data.{Data, Members, get_member}
+use Rattle.toml.specs.Data.{Members, get_member}
 use Rattle.c_tree.specs.declared.program.Func.{Func}
 use Rattle.c_tree.specs.declared.program.Program.{Program}
 use Rattle.c_tree.specs.declared.program.Costs.{Costs}
@@ -99,6 +99,10 @@ document_verdict fs (Some ms) = judged (fault_of fs ms) (costs_of fs ms)
 -- what the bytes say of the program
 abbrev pub verdict : Program → List ℕ → Result Costs CostFault
 verdict p bytes = document_verdict p.funcs (document bytes)
+
+-- the bytes are a table of the program, and these are its costs
+abbrev pub IsTable : List ℕ → Program → Costs → Type 0
+IsTable bytes p t = verdict p bytes ≡ Ok t
 
 -- ---- without a table
 

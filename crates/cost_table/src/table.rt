@@ -3,7 +3,7 @@
 ghost use Rattle.std.specs.Prelude.{◌≡◌, ◌≢◌, Ok, Err, IfOk, IfErr, OnOk, OnErr, None, Some};
 ghost use Rattle.c_tree.specs.Claims.{AreCostsOf};
 ghost use Rattle.toml.specs.View.{table_view};
-ghost use Rattle.cost_table.specs.Tables.{verdict, plain, judged, fault_of, costs_of, version_fault, key_fault, block_fault, number_fault};
+ghost use Rattle.cost_table.specs.Tables.{IsTable, verdict, plain, judged, fault_of, costs_of, version_fault, key_fault, block_fault, number_fault};
 
 use crate::document::{has_version_one, read};
 use crate::fault::CostFault;
@@ -24,7 +24,7 @@ use toml::Table;
 ///
 /// The first fault, in the order of `CostFault`; `NoMemory` may stand before any other.
 pub fn costs(alloc: Global, program: &Program, text: &[u8]) -> Result<Costs, CostFault>
-    ensures table { IfOk result (λ t. verdict program.now text.now ≡ Ok t) }
+    ensures table { IfOk result (IsTable text.now program.now) }
     ensures fault { IfErr result (λ e. e ≢ CostFault.NoMemory → verdict program.now text.now ≡ Err e) }
     ensures costs { IfOk result (AreCostsOf program.now) }
 {

@@ -1,5 +1,5 @@
-use Rattle.std.proofs.Common.{◌≡◌, None, Some, option_map, option_and_then, unwrap_or, codes, ap, sym, ◌∙◌}
-use Rattle.toml.specs.Data.{get_member, as_table, no_members}
+use Rattle.std.proofs.Common.{◌≡◌, unwrap_or, ap, sym}
+use Rattle.toml.specs.Data.{no_members}
 use Rattle.toml.specs.View.{table_view}
 use Rattle.cost_table.specs.Documents.{entries}
 use Rattle.cost_table.proofs.Reading.{no_text_no_key}

@@ -1,4 +1,3 @@
-use Rattle.std.proofs.Common.{◌≡◌, rules}
 use Rattle.std.proofs.lemmas.Bool.{true≢false}
 use Rattle.std.proofs.Common.{sym, ◌∙◌}
 use Rattle.cost_table.proofs.Reading.{document_read, document_refused}

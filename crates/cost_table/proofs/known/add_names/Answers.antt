@@ -1,4 +1,4 @@
-use Rattle.std.proofs.Common.{◌≡◌, ℕ, ◌+◌, ◌-◌, ◌&&◌, ◌||◌, List, map, rules, ap, sym, ◌∙◌}
+use Rattle.std.proofs.Common.{◌+◌, ◌-◌, ◌&&◌, ◌||◌, map, ap, ◌∙◌}
 use Rattle.std.specs.Prelude.{is_some}
 use Rattle.std.specs.List.{list_any, range_with_len}
 use Rattle.std.specs.Str.{bytes_eq}
@@ -6,7 +6,7 @@ use Rattle.std.specs.BTreeSet.{contains_text}
 use Rattle.toml.specs.Data.{get_member}
 use Rattle.toml.specs.View.{table_view}
 use Rattle.cost_table.specs.Documents.{entries}
-use Rattle.cost_table.specs.Tables.{names_of, block_name}
+use Rattle.cost_table.specs.Tables.{block_name}
 use Rattle.cost_table.proofs.KnownNames.{any_more, range_left}
 use Rattle.cost_table.proofs.known.add_names.Goals as goal
 
