@@ -2,4 +2,5 @@ pub mod Reading
 pub mod FirstKeys
 pub mod KnownNames
 pub mod Entries
+pub mod FirstInOrder
 pub mod BlockCosts

@@ -6,10 +6,12 @@ mod document;
 mod fault;
 mod first;
 mod known;
+mod law;
 mod rows;
 mod table;
 
 pub use fault::CostFault;
+pub use law::first_in_byte_order;
 pub use table::{costs, plain_costs};
 
 #[cfg(test)]
