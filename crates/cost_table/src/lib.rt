@@ -11,7 +11,7 @@ mod rows;
 mod table;
 
 pub use fault::CostFault;
-pub use law::first_in_byte_order;
+pub use law::{first_in_byte_order, worked_tables};
 pub use table::{costs, plain_costs};
 
 #[cfg(test)]
