@@ -1,6 +1,6 @@
 -- The first key of a table is the first in byte order of those at which a test is true.
-use Rattle.std.proofs.Common.{◌≡◌, ℕ, Bool, true, false, List, Option, Some, None, Ordering, Less, Equal, Greater, nat_cmp, if◌then◌else◌, refl, sym, ap, subst, ◌∙◌, inl, inr}
-use Rattle.std.specs.Ordering.{is_lt, is_gt, ordering_reverse}
+use Rattle.std.proofs.Common.{◌≡◌, ℕ, Bool, true, false, List, Option, Some, None, Ordering, Less, Equal, Greater, nat_cmp, refl, sym, ap, subst, ◌∙◌, inl, inr}
+use Rattle.std.specs.Ordering.{is_lt, is_gt}
 use Rattle.std.specs.Cmp.{tied_itself}
 use Rattle.std.specs.Cmp.Lexicographic.{slice_cmp}
 use Rattle.std.proofs.lemmas.Bool.{cases_Bool, true≢false}
@@ -8,7 +8,7 @@ use Rattle.std.proofs.lemmas.Cmp.{nat_list_cmp_total}
 use Rattle.toml.specs.Data.{Data, Members, no_members, member}
 use Rattle.cost_table.specs.Documents.{earlier, first_key}
 use Rattle.cost_table.proofs.Reading.{equal_is}
-use Rattle.cost_table.specs.Orders.{Holds, IsFirstKey, NoKeyPasses, IsFirstOrNone}
+use Rattle.cost_table.specs.Orders.{IsFirstKey, IsFirstOrNone}
 
 -- ---- byte order
 
@@ -40,13 +40,13 @@ module _ (test : List ℕ → Data → Bool) (key : List ℕ) (d : Data) (ms : M
   fails not None rest = λ other e holds. elim holds [
     | inl same ↦ ap (λ k. test k e) same.0 ∙ ap (test key) same.1 ∙ not
     | inr more ↦ rest other e more
-    ]
+  ]
   fails not (Some k) rest = record {
     passes = (rest.passes.0, inr rest.passes.1, rest.passes.2);
     first = λ other e holds at. elim holds [
       | inl same ↦ absurd (true≢false (sym at ∙ ap (λ k. test k e) same.0 ∙ ap (test key) same.1 ∙ not))
       | inr more ↦ rest.first other e more at
-    ]
+    ];
   }
 
   passes : test key d ≡ true → (found : Option (List ℕ)) → IsFirstOrNone test ms found → IsFirstKey test (member key d ms) (earlier key found)
@@ -55,24 +55,24 @@ module _ (test : List ℕ → Data → Bool) (key : List ℕ) (d : Data) (ms : M
     first = λ other e holds at. elim holds [
       | inl same ↦ ap (λ k. is_lt (bytes k key)) same.0 ∙ not_before_itself key
       | inr more ↦ absurd (true≢false (sym at ∙ rest other e more))
-    ]
+    ];
   }
   passes is (Some k) rest =
       elim (cases_Bool (is_gt (bytes key k))) [
         | inl after ↦ rw after (record {
-            passes = (rest.passes.0, inr rest.passes.1, rest.passes.2);
-            first = λ other e holds at. elim holds [
-              | inl same ↦ ap (λ l. is_lt (bytes l k)) same.0 ∙ after_is_not_before (bytes key k) after
-              | inr more ↦ rest.first other e more at
-            ]
-          })
+          passes = (rest.passes.0, inr rest.passes.1, rest.passes.2);
+          first = λ other e holds at. elim holds [
+            | inl same ↦ ap (λ l. is_lt (bytes l k)) same.0 ∙ after_is_not_before (bytes key k) after
+            | inr more ↦ rest.first other e more at
+          ];
+        })
         | inr before ↦ rw before (record {
-            passes = (d, inl (refl, refl), is);
-            first = λ other e holds at. elim holds [
-              | inl same ↦ ap (λ l. is_lt (bytes l key)) same.0 ∙ not_before_itself key
-              | inr more ↦ not_before other key k (bytes other key) (bytes key k) refl refl before (rest.first other e more at)
-            ]
-          })
+          passes = (d, inl (refl, refl), is);
+          first = λ other e holds at. elim holds [
+            | inl same ↦ ap (λ l. is_lt (bytes l key)) same.0 ∙ not_before_itself key
+            | inr more ↦ not_before other key k (bytes other key) (bytes key k) refl refl before (rest.first other e more at)
+          ];
+        })
       ]
 
 pub first_in_order : (test : List ℕ → Data → Bool) (ms : Members) → IsFirstOrNone test ms (first_key test ms)

@@ -8,5 +8,5 @@ abbrev pub two_blocks : Program
 two_blocks = record {
   globals = [];
   funcs = (record { name = codes "main"; result = None; params = 0; locals = []; body = Break ∷ Continue ∷ [] }) ∷ [];
-  entry = 0
+  entry = 0;
 }
