@@ -1,0 +1,7 @@
+pub mod Reading
+pub mod FirstKeys
+pub mod KnownNames
+pub mod Entries
+pub mod FirstInOrder
+pub mod WorkedTables
+pub mod BlockCosts

@@ -1,0 +1,12 @@
+use Rattle.std.proofs.Common.{subst}
+use Rattle.std.proofs.lemmas.Result.{IfOk-weaker}
+use Rattle.toml.specs.View.{table_view}
+use Rattle.c_tree.specs.Claims.{AreRowsOf}
+use Rattle.cost_table.proofs.BlockCosts.{verdict_costs}
+use Rattle.cost_table.proofs.table.costs.Goals as goal
+
+pub returns-clause-costs : goal.returns-clause-costs
+returns-clause-costs c =
+    IfOk-weaker c.document_costs.result _ _
+    (λ t is. record { rows = subst (λ fs. AreRowsOf fs t.by_func) c.as_slice.ensures (verdict_costs (table_view c.in_ok-document.document) c.as_slice.result.now t is) })
+    c.document_costs.ensures.table

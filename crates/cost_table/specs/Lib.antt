@@ -1,0 +1,4 @@
+pub mod Documents
+pub mod Orders
+pub mod Tables
+pub mod Worked
