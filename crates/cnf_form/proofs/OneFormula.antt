@@ -13,7 +13,7 @@ AllSmall : List ℤ → Type 0
 AllSmall [] = Unit {0}
 AllSmall (l ∷ ls) = (unsigned_abs l ≤ most) × AllSmall ls
 
-small_mag : (l : ℤ) → unsigned_abs l ≤ most → mag l < 2 ^ 63
+pub small_mag : (l : ℤ) → unsigned_abs l ≤ most → mag l < 2 ^ 63
 small_mag (pos n) small = omega arith
 small_mag (negsuc n) small = omega arith
 

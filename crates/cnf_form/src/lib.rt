@@ -7,8 +7,11 @@
 mod assignment;
 mod clause;
 mod cnf;
+mod front;
 mod law;
 mod log;
+mod number;
+mod word;
 mod write;
 
 pub use assignment::Assignment;
