@@ -6,3 +6,5 @@ pub mod Decimals
 pub mod Wording
 pub mod Fronts
 pub mod Growing
+pub mod Advancing
+pub mod Bodies

@@ -5,4 +5,5 @@ pub mod Lines
 pub mod Forms
 pub mod Numbers
 pub mod Words
+pub mod Passing
 pub mod Reading

@@ -6,8 +6,11 @@ use Rattle.std.specs.HashSet.{HashSet, contains}
 use Rattle.std.specs.declared.hash.FoldHasher.{FoldHasher}
 use Rattle.std.specs.declared.hash.BuildHasherDefault.{BuildHasherDefault}
 use Rattle.cnf_form.specs.declared.front.Front.{Front}
+use Rattle.cnf_form.specs.declared.course.Course.{Course}
+use Rattle.cnf_form.specs.declared.course.Course.TheVariants.{Fits, MayGrow, Breaks}
+use Rattle.cnf_form.specs.Passing.{HasNoFeed, EndsInFeed}
 use Rattle.cnf_form.specs.Literals.{most, IsLiteral, IsClause, AreClauses, NamesUpTo}
-use Rattle.cnf_form.specs.Forms.{numbers_of, IsFormula}
+use Rattle.cnf_form.specs.Forms.{words, numbers_of, IsFormula}
 
 -- no literal is of this variable
 abbrev pub IsUnnamed : List ℤ → ℕ → Type 0
@@ -74,3 +77,45 @@ pub record LeadsAtOnce (variables : ℕ) (literals : List ℤ) (low past : ℕ) 
 pub record Keeps (front : Front) : Type 0 where
   pub is_front : IsFront front.variables front.count front.clauses.items front.literals.items
   pub names : (v : ℕ) → contains nat_eq front.named v ≡ list_any (λ l. unsigned_abs l == v) front.literals.items
+
+-- some clauses have these words
+pub record Reaches (variables count : ℕ) (seen : List (List ℕ)) : Type 0 where
+  pub clauses : List (List ℤ)
+  pub literals : List ℤ
+  pub is_front : IsFront variables count clauses literals
+  pub same : seen ≡ front_words clauses literals
+
+-- the words of the line, and of whatever follows it, make no formula of those seen
+pub record BreaksOff (variables count : ℕ) (seen : List (List ℕ)) (line : List ℕ) : Type 0 where
+  pub never : (more : List ℕ) → ¬ AreOfFormula variables count (seen ++ words (line ++ more))
+
+-- the line has no line feed, its words make no formula of those seen, and further bytes make it a line that does go on
+pub record StopsShort (variables count : ℕ) (seen : List (List ℕ)) (line : List ℕ) : Type 0 where
+  pub unfinished : ¬ EndsInFeed line
+  pub none : ¬ AreOfFormula variables count (seen ++ words line)
+  pub more : List ℕ
+  pub no_feed : HasNoFeed more
+  pub reaches : Reaches variables count (seen ++ words (line ++ (more ++ 10 ∷ [])))
+
+-- the clauses went on with the words of the line
+pub record WentOn (old new : Front) (line : List ℕ) : Type 0 where
+  pub keeps : Keeps new
+  pub variables : new.variables ≡ old.variables
+  pub count : new.count ≡ old.count
+  pub same : front_words new.clauses.items new.literals.items ≡ front_words old.clauses.items old.literals.items ++ words line
+
+-- how a line goes with the clauses before it
+abbrev pub TakesLine : Front → Front → List ℕ → Course → Type 0
+TakesLine old new line Fits = WentOn old new line
+TakesLine old new line MayGrow = StopsShort old.variables old.count (front_words old.clauses.items old.literals.items) line
+TakesLine old new line Breaks = BreaksOff old.variables old.count (front_words old.clauses.items old.literals.items) line
+
+-- what a word, and what stands behind it on its line, does where they do not go on with it
+pub record GrowsAtEnd (front : Front) (word after : List ℕ) : Type 0 where
+  pub last : length after ≡ 0
+  pub grows : Grows front.variables front.count front.clauses.items front.literals.items word
+
+abbrev pub EndsAt : Front → List ℕ → List ℕ → Course → Type 0
+EndsAt front word after Fits = ⊥
+EndsAt front word after MayGrow = GrowsAtEnd front word after
+EndsAt front word after Breaks = ¬ GrowsAtEnd front word after

@@ -6,9 +6,12 @@
 
 mod assignment;
 mod clause;
+mod clause_line;
 mod cnf;
+mod course;
 mod front;
 mod law;
+mod line;
 mod log;
 mod number;
 mod word;
