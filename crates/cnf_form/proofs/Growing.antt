@@ -107,7 +107,7 @@ no_minus n more bytes small same = by_digits (decimal n) (digits_decimal own n s
 
 -- ---- which words may grow
 
-small_number : (variables : ℕ) (literals : List ℤ) (number : ℤ) → (number ≡ pos 0) ⊎ IsNew variables literals number → unsigned_abs number ≤ most
+pub small_number : (variables : ℕ) (literals : List ℤ) (number : ℤ) → (number ≡ pos 0) ⊎ IsNew variables literals number → unsigned_abs number ≤ most
 small_number variables literals number (inl is) = rw is (omega arith)
 small_number variables literals number (inr new) = new.literal.1
 

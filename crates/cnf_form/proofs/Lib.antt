@@ -8,3 +8,4 @@ pub mod Fronts
 pub mod Growing
 pub mod Advancing
 pub mod Bodies
+pub mod LineWords
