@@ -69,11 +69,11 @@ pub record NextTold (line more : List ℕ) : Type 0 where
   pub told : told_lines (line ++ more) ≡ (line ++ ending) ∷ told_lines rest
   pub closed : EndsInFeed line → ending ≡ []
 
-begins_on : (c : ℕ) (line more : List ℕ) → 0 < length line → begins_with c (line ++ more) ≡ begins_with c line
+pub begins_on : (c : ℕ) (line more : List ℕ) → 0 < length line → begins_with c (line ++ more) ≡ begins_with c line
 begins_on c [] more some = absurd (omega (arith, some))
 begins_on c (b ∷ bs) more some = refl
 
-not_both : (line : List ℕ) → EndsInFeed line → IsUnfinished line → ⊥
+pub not_both : (line : List ℕ) → EndsInFeed line → IsUnfinished line → ⊥
 not_both line ends unfinished =
     let split : (list_all (λ b. not (b == 10)) ends.visible && false) ≡ true = sym (list_all-append (λ b. not (b == 10)) ends.visible (10 ∷ [])) ∙ ap (list_all (λ b. not (b == 10))) (sym ends.is) ∙ unfinished.no_feed in
     false≢true (sym (and_false (list_all (λ b. not (b == 10)) ends.visible)) ∙ split)

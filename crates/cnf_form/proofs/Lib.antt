@@ -9,3 +9,4 @@ pub mod Growing
 pub mod Advancing
 pub mod Bodies
 pub mod LineWords
+pub mod Heads

@@ -1,5 +1,5 @@
 -- What the words of a line do with the clauses before it.
-use Rattle.std.proofs.Common.{◌≡◌, ◌≢◌, ℕ, ℤ, pos, suc, zero, ◌+◌, ◌<◌, ◌≤◌, Bool, true, false, not, ◌&&◌, ◌⊎◌, ◌==◌, List, [], ◌∷◌, ◌++◌, length, unsigned_abs, refl, sym, ◌∙◌, ap, subst, arith, append_assoc, length-append, inl, inr, ne_eqb}
+use Rattle.std.proofs.Common.{◌≡◌, ◌≢◌, ℕ, ℤ, pos, suc, zero, ◌+◌, ◌<◌, ◌≤◌, Bool, true, false, not, ◌&&◌, ◌⊎◌, ◌==◌, List, [], ◌∷◌, ◌++◌, length, get_or, unsigned_abs, refl, sym, ◌∙◌, ap, subst, arith, append_assoc, length-append, inl, inr, ne_eqb}
 use Rattle.std.specs.List.{list_all}
 use Rattle.std.specs.Fmt.{signed_decimal}
 use Rattle.std.proofs.lemmas.Bool.{false≢true}
@@ -8,7 +8,7 @@ use Rattle.std.proofs.lemmas.List.Folds.{list_all-append}
 use Rattle.cnf_form.specs.Literals.{most}
 use Rattle.cnf_form.specs.Forms.{is_gap, words}
 use Rattle.cnf_form.specs.Words.{AreGaps, IsSolid, CutsWord}
-use Rattle.cnf_form.specs.Passing.{HasNoFeed, EndsInFeed}
+use Rattle.cnf_form.specs.Passing.{HasNoFeed, EndsInFeed, BeginsApart, UpTo}
 use Rattle.cnf_form.specs.declared.front.Front.{Front}
 use Rattle.cnf_form.specs.declared.course.Course.{Course}
 use Rattle.cnf_form.specs.declared.course.Course.TheVariants.{Fits, MayGrow, Breaks}
@@ -22,23 +22,28 @@ use Rattle.cnf_form.proofs.Bodies.{goes_on}
 pub cut_some : (text word rest : List ℕ) → CutsWord text word rest → length rest < length text
 cut_some text word rest cut = omega (arith, cut.some, ap length cut.split, length-append cut.gaps (word ++ rest), length-append word rest)
 
+pub nothing_apart : BeginsApart []
+nothing_apart = record { gap = λ some. absurd (omega (arith, some)) }
+
 -- the words from a word on
-pub words_from : (text word rest more : List ℕ) → CutsWord text word rest → (length rest ≡ 0 → more ≡ []) → words (text ++ more) ≡ word ∷ words (rest ++ more)
+pub words_from : (text word rest more : List ℕ) → CutsWord text word rest → (length rest ≡ 0 → BeginsApart more) → words (text ++ more) ≡ word ∷ words (rest ++ more)
 words_from text word (b ∷ bs) more cut last = cut_whole text word (b ∷ bs) more cut (omega arith)
-words_from text word [] more cut last =
-    let none = last refl in
-    cut_open text word [] more cut refl ∙ ap (λ m. words (word ++ m)) none ∙ ap words (append-nil word) ∙ words-last word cut.solid cut.some ∙ ap (λ m. word ∷ words m) (sym none)
+words_from text word [] more cut last = cut_open text word [] more cut refl ∙ by_more more (last refl)
+  where
+    by_more : (more : List ℕ) → BeginsApart more → words (word ++ more) ≡ word ∷ words more
+    by_more [] apart = ap words (append-nil word) ∙ words-last word cut.solid cut.some
+    by_more (b ∷ bs) apart = let gap = apart.gap (omega arith) in words-solid word bs b cut.solid cut.some gap ∙ ap (λ ws. word ∷ ws) (sym (words-gaps (b ∷ []) bs (rw gap refl)))
 
 -- what an unfinished word goes on to
-record SolidFront (word text : List ℕ) : Type 0 where
-  front : List ℕ
-  rest : List (List ℕ)
-  is : words (word ++ text) ≡ (word ++ front) ∷ rest
+pub record SolidFront (word text : List ℕ) : Type 0 where
+  pub front : List ℕ
+  pub rest : List (List ℕ)
+  pub is : words (word ++ text) ≡ (word ++ front) ∷ rest
 
 solid_more : (word : List ℕ) (b : ℕ) → IsSolid word → is_gap b ≡ false → IsSolid (word ++ b ∷ [])
 solid_more word b solid plain = list_all-append (λ b. not (is_gap b)) word (b ∷ []) ∙ rw (solid, plain) refl
 
-solid_front : (text word : List ℕ) → IsSolid word → 0 < length word → SolidFront word text
+pub solid_front : (text word : List ℕ) → IsSolid word → 0 < length word → SolidFront word text
 solid_front [] word solid some = record { front = []; rest = []; is = ap words (append-nil word) ∙ words-last word solid some ∙ ap (λ w. w ∷ []) (sym (append-nil word)) }
 solid_front (b ∷ bs) word solid some = by_gap (is_gap b) refl (λ plain. solid_front bs (word ++ b ∷ []) (solid_more word b solid plain) (omega (arith, length-append word (b ∷ []))))
   where
@@ -77,21 +82,22 @@ went_on variables count clauses literals number front room (inr new) =
 
 -- ---- a word with which they do not go on
 
--- the line so far
-pub record UpTo (seen : List (List ℕ)) (line rest : List ℕ) (now : List (List ℕ)) : Type 0 where
-  pub before : List ℕ
-  pub split : line ≡ before ++ rest
-  pub same : (more : List ℕ) → (length rest ≡ 0 → more ≡ []) → seen ++ words (line ++ more) ≡ now ++ words (rest ++ more)
-
-at_word : (seen : List (List ℕ)) (line rest : List ℕ) (now : List (List ℕ)) (word after more : List ℕ) → UpTo seen line rest now → CutsWord rest word after → (length after ≡ 0 → more ≡ []) → seen ++ words (line ++ more) ≡ now ++ word ∷ words (after ++ more)
+pub at_word : (seen : List (List ℕ)) (line rest : List ℕ) (now : List (List ℕ)) (word after more : List ℕ) → UpTo seen line rest now → CutsWord rest word after → (length after ≡ 0 → BeginsApart more) → seen ++ words (line ++ more) ≡ now ++ word ∷ words (after ++ more)
 at_word seen line rest now word after more up cut last =
     let some = cut_some rest word after cut in
     up.same more (λ none. absurd (omega (arith, none, some))) ∙ ap (λ ws. now ++ ws) (words_from rest word after more cut last)
 
-at_open : (seen : List (List ℕ)) (line rest : List ℕ) (now : List (List ℕ)) (word after more : List ℕ) → UpTo seen line rest now → CutsWord rest word after → length after ≡ 0 → seen ++ words (line ++ more) ≡ now ++ words (word ++ more)
+pub at_open : (seen : List (List ℕ)) (line rest : List ℕ) (now : List (List ℕ)) (word after more : List ℕ) → UpTo seen line rest now → CutsWord rest word after → length after ≡ 0 → seen ++ words (line ++ more) ≡ now ++ words (word ++ more)
 at_open seen line rest now word after more up cut last =
     let some = cut_some rest word after cut in
     up.same more (λ none. absurd (omega (arith, none, some))) ∙ ap (λ ws. now ++ ws) (cut_open rest word after more cut last)
+
+-- a line that ends with a word has no line feed
+pub open_end : (seen : List (List ℕ)) (line rest : List ℕ) (now : List (List ℕ)) (word after : List ℕ) → UpTo seen line rest now → CutsWord rest word after → length after ≡ 0 → ¬ EndsInFeed line
+open_end seen line rest now word (b ∷ bs) up cut last ends = omega (arith, last)
+open_end seen line rest now word [] up cut last ends =
+    solid_end (up.before ++ cut.gaps) word ends.visible cut.solid cut.some
+    (append_assoc up.before cut.gaps word ∙ ap (λ w. up.before ++ (cut.gaps ++ w)) (sym (append-nil word)) ∙ ap (λ r. up.before ++ r) (sym cut.split) ∙ sym up.split ∙ ends.is)
 
 pub stops_short : (variables count : ℕ) (clauses : List (List ℤ)) (literals : List ℤ) (seen : List (List ℕ)) (line rest word after : List ℕ) → IsFront variables count clauses literals → UpTo seen line rest (front_words clauses literals) → CutsWord rest word after
     → length after ≡ 0 → Grows variables count clauses literals word → ((number : ℤ) → ¬ GoesOnBy variables count clauses literals word number) → StopsShort variables count seen line
@@ -100,12 +106,10 @@ stops_short variables count clauses literals seen line rest word after front up 
     let goes = grows.goes_on in
     let numeric = IsNumeric-signed grows.number (small_number variables literals grows.number goes.fits) in
     let all = subst AllNumeric (sym goes.written) numeric.each in
-    let nothing : after ≡ [] = empty after last in
     record {
-      unfinished = λ ends. solid_end (up.before ++ cut.gaps) word ends.visible cut.solid cut.some
-          (append_assoc up.before cut.gaps word ∙ ap (λ w. up.before ++ (cut.gaps ++ w)) (sym (append-nil word) ∙ ap (λ a. word ++ a) (sym nothing)) ∙ ap (λ r. up.before ++ r) (sym cut.split) ∙ sym up.split ∙ ends.is);
+      unfinished = open_end seen line rest (front_words clauses literals) word after up cut last;
       none = λ formula. goes_on variables count clauses literals word (words (after ++ [])) front
-          (subst (AreOfFormula variables count) (ap (λ l. seen ++ words l) (sym (append-nil line)) ∙ at_word seen line rest (front_words clauses literals) word after [] up cut (λ e. refl)) formula) none;
+          (subst (AreOfFormula variables count) (ap (λ l. seen ++ words l) (sym (append-nil line)) ∙ at_word seen line rest (front_words clauses literals) word after [] up cut (λ e. nothing_apart)) formula) none;
       more = grows.more;
       no_feed = no_feed_numeric grows.more (numeric-right word grows.more all);
       reaches = subst (Reaches variables count)
@@ -114,11 +118,6 @@ stops_short variables count clauses literals seen line rest word after front up 
           ∙ sym (at_open seen line rest (front_words clauses literals) word after (grows.more ++ 10 ∷ []) up cut last))
           (went_on variables count clauses literals grows.number front goes.room goes.fits);
     }
-  where
-    empty : (a : List ℕ) → length a ≡ 0 → a ≡ []
-    empty [] none = refl
-    empty (x ∷ xs) none = absurd (omega (arith, none))
-
 pub breaks_off : (variables count : ℕ) (clauses : List (List ℤ)) (literals : List ℤ) (seen : List (List ℕ)) (line rest word after : List ℕ) → IsFront variables count clauses literals → UpTo seen line rest (front_words clauses literals) → CutsWord rest word after
     → (length after ≡ 0 → ¬ Grows variables count clauses literals word) → ((number : ℤ) → ¬ GoesOnBy variables count clauses literals word number) → BreaksOff variables count seen line
 breaks_off variables count clauses literals seen line rest word [] front up cut stuck none = record {
@@ -145,7 +144,7 @@ one_word seen line rest now new word after up cut is = record {
 -- no word is left
 pub no_word : (seen : List (List ℕ)) (line rest : List ℕ) (now : List (List ℕ)) → UpTo seen line rest now → AreGaps rest → now ≡ seen ++ words line
 no_word seen line rest now up gaps =
-    sym (append-nil now) ∙ ap (λ ws. now ++ ws) (sym (words-gaps rest [] gaps)) ∙ sym (up.same [] (λ e. refl)) ∙ ap (λ l. seen ++ words l) (append-nil line)
+    sym (append-nil now) ∙ ap (λ ws. now ++ ws) (sym (words-gaps rest [] gaps)) ∙ sym (up.same [] (λ e. nothing_apart)) ∙ ap (λ l. seen ++ words l) (append-nil line)
 
 pub takes_line : (old now : Front) (line rest word after : List ℕ) (course : Course) → Keeps now → now.variables ≡ old.variables → now.count ≡ old.count
     → UpTo (front_words old.clauses.items old.literals.items) line rest (front_words now.clauses.items now.literals.items) → CutsWord rest word after

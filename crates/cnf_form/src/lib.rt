@@ -10,6 +10,7 @@ mod clause_line;
 mod cnf;
 mod course;
 mod front;
+mod head;
 mod law;
 mod line;
 mod log;

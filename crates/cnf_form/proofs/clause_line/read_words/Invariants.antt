@@ -1,6 +1,6 @@
 use Rattle.std.proofs.Common.{◌≡◌, length}
 use Rattle.cnf_form.specs.Reading.{Keeps, front_words}
-use Rattle.cnf_form.proofs.LineWords.{UpTo}
+use Rattle.cnf_form.specs.Passing.{UpTo}
 use Rattle.cnf_form.proofs.clause_line.read_words.Given as goal
 
 abbrev pub invariant-loop-word : goal.invariant-loop-word
