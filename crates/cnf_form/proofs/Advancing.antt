@@ -82,7 +82,7 @@ not_both line ends unfinished =
     and_false true = refl
     and_false false = refl
 
-some_line : (line : List ℕ) → EndsInFeed line → 0 < length line
+pub some_line : (line : List ℕ) → EndsInFeed line → 0 < length line
 some_line line ends = omega (arith, ap length ends.is, length-append ends.visible (10 ∷ []))
 
 told_first : (line : List ℕ) (first : List ℕ) (rest : List (List ℕ)) (text : List ℕ) → lines_of text ≡ first ∷ rest → begins_with 99 first ≡ false → told_lines text ≡ first ∷ filter (λ line. not (begins_with 99 line)) rest

@@ -7,3 +7,5 @@ pub mod Numbers
 pub mod Words
 pub mod Passing
 pub mod Reading
+pub mod Places
+pub mod Faults

@@ -1,5 +1,5 @@
 -- The clauses of a formula while its words are read one by one.
-use Rattle.std.specs.Prelude.{◌≡◌, ◌==◌, ◌≤◌, ◌<◌, ◌+◌, ◌*◌, ◌^◌, ℕ, ℤ, pos, nat_eq, false, List, [], ◌∷◌, ◌++◌, ◌⊎◌, length, map, unsigned_abs, All}
+use Rattle.std.specs.Prelude.{◌≡◌, ◌==◌, ◌≤◌, ◌<◌, ◌+◌, ◌*◌, ◌^◌, ℕ, ℤ, pos, nat_eq, true, false, List, [], ◌∷◌, ◌++◌, ◌⊎◌, length, map, unsigned_abs, All}
 use Rattle.std.specs.List.{list_any}
 use Rattle.std.specs.Fmt.{signed_decimal}
 use Rattle.std.specs.HashSet.{HashSet, contains}
@@ -10,7 +10,7 @@ use Rattle.cnf_form.specs.declared.course.Course.{Course}
 use Rattle.cnf_form.specs.declared.course.Course.TheVariants.{Fits, MayGrow, Breaks}
 use Rattle.cnf_form.specs.Passing.{HasNoFeed, EndsInFeed}
 use Rattle.cnf_form.specs.Literals.{most, IsLiteral, IsClause, AreClauses, NamesUpTo}
-use Rattle.cnf_form.specs.Forms.{words, numbers_of, IsFormula}
+use Rattle.cnf_form.specs.Forms.{words, begins_with, numbers_of, IsFormula}
 
 -- no literal is of this variable
 abbrev pub IsUnnamed : List ℤ → ℕ → Type 0
@@ -109,6 +109,19 @@ abbrev pub TakesLine : Front → Front → List ℕ → Course → Type 0
 TakesLine old new line Fits = WentOn old new line
 TakesLine old new line MayGrow = StopsShort old.variables old.count (front_words old.clauses.items old.literals.items) line
 TakesLine old new line Breaks = BreaksOff old.variables old.count (front_words old.clauses.items old.literals.items) line
+
+-- the same of a line that may be a comment, which changes nothing
+pub record SkipsComment (old new : Front) (line : List ℕ) (course : Course) : Type 0 where
+  pub comment : begins_with 99 line ≡ true
+  pub course_is : course ≡ Fits
+  pub same : new ≡ old
+
+pub record TakesPlain (old new : Front) (line : List ℕ) (course : Course) : Type 0 where
+  pub plain : begins_with 99 line ≡ false
+  pub takes : TakesLine old new line course
+
+abbrev pub TakesTold : Front → Front → List ℕ → Course → Type 0
+TakesTold old new line course = SkipsComment old new line course ⊎ TakesPlain old new line course
 
 -- what a word, and what stands behind it on its line, does where they do not go on with it
 pub record GrowsAtEnd (front : Front) (word after : List ℕ) : Type 0 where

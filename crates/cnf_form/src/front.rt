@@ -6,7 +6,9 @@ ghost use Rattle.cnf_form.specs.Literals.{most};
 ghost use Rattle.cnf_form.specs.Reading.{IsUnnamed, IsNew, GoesOnBy, Grows, LeadsToNew, LeadsAtOnce, Keeps, front_words};
 
 use crate::clause::Clause;
+use crate::cnf::Cnf;
 use crate::number::integer_of;
+use sqlite_items::Items;
 use std::alloc::{AllocError, Global};
 use std::collections::HashSet;
 
@@ -37,6 +39,19 @@ impl Front {
             clauses: Vec::new(alloc),
             literals: Vec::new(alloc),
             named: HashSet::new(alloc),
+        }
+    }
+
+    /// The formula of all clauses.
+    pub(crate) fn into_formula(self) -> Cnf
+        requires keeps { Keeps self }
+        requires whole { length self.clauses.items ≡ self.count }
+        ensures variables { result.variables ≡ self.variables }
+        ensures clauses { result.clauses ≡ self.clauses.items }
+    {
+        Cnf {
+            variables: self.variables,
+            clauses: Items::from_vec(self.clauses),
         }
     }
 

@@ -9,20 +9,24 @@ mod clause;
 mod clause_line;
 mod cnf;
 mod course;
+mod form_fault;
 mod front;
 mod head;
 mod law;
 mod line;
 mod log;
 mod number;
+mod formula;
 mod word;
 mod write;
 
 pub use assignment::Assignment;
 pub use clause::Clause;
 pub use cnf::Cnf;
+pub use form_fault::FormFault;
 pub use law::one_formula;
 pub use log::{Log, LogLine};
+pub use formula::read_cnf;
 pub use write::{write_cnf, write_log};
 
 #[cfg(test)]
