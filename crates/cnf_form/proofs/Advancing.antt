@@ -1,16 +1,14 @@
 -- The lines of a text, one after another.
-use Rattle.std.proofs.Common.{◌≡◌, ◌≢◌, ℕ, suc, zero, ◌+◌, ◌-◌, ◌<◌, ◌≤◌, Bool, true, false, not, cond, ◌&&◌, ◌⊎◌, ◌==◌, eqb, eqb-true, List, [], ◌∷◌, ◌++◌, length, get_or, take, drop, filter, codes, refl, sym, ◌∙◌, ap, subst, arith, append_assoc, length-append, inl, inr}
+use Rattle.std.proofs.Common.{◌≡◌, ℕ, ◌+◌, ◌<◌, Bool, true, false, not, ◌&&◌, ◌⊎◌, ◌==◌, eqb-true, List, [], ◌∷◌, ◌++◌, length, filter, refl, sym, ◌∙◌, ap, arith, append_assoc, length-append, inl, inr}
 use Rattle.std.specs.List.{list_all, flat_map}
-use Rattle.std.specs.Fmt.{decimal}
 use Rattle.std.proofs.lemmas.Bool.{false≢true}
-use Rattle.std.proofs.lemmas.List.{append-nil, take-append-le, take_all, take-append-drop}
+use Rattle.std.proofs.lemmas.List.{append-nil}
 use Rattle.std.proofs.lemmas.List.Concat.{flat_map-append}
 use Rattle.std.proofs.lemmas.List.Elements.{filter-append}
 use Rattle.std.proofs.lemmas.List.Folds.{list_all-append}
-use Rattle.cnf_form.specs.Literals.{most}
-use Rattle.cnf_form.specs.Lines.{onto_first, lines_of, front, Begins, LeavesAt}
-use Rattle.cnf_form.specs.Forms.{is_gap, pieces, onto_piece, has_bytes, words, begins_with, told_lines}
-use Rattle.cnf_form.specs.Passing.{HasNoFeed, EndsInFeed, IsUnfinished, CutsLine, AreLines, AreComments, AreClauseLines, IsHead}
+use Rattle.cnf_form.specs.Lines.{lines_of}
+use Rattle.cnf_form.specs.Forms.{is_gap, pieces, has_bytes, words, begins_with, told_lines}
+use Rattle.cnf_form.specs.Passing.{HasNoFeed, EndsInFeed, IsUnfinished, AreLines, AreComments, AreClauseLines, IsHead}
 use Rattle.cnf_form.proofs.Wording.{and_true, not_true}
 
 -- ---- words and lines at a line feed
@@ -109,7 +107,7 @@ next_told line more (inr unfinished) plain = by_more (feeds more)
         let ending : List ℕ = cut.visible ++ 10 ∷ [] in
         let whole : line ++ (cut.visible ++ 10 ∷ []) ≡ (line ++ cut.visible) ++ 10 ∷ [] = sym (append_assoc line cut.visible (10 ∷ [])) in
         let lines : lines_of (line ++ more) ≡ (line ++ (cut.visible ++ 10 ∷ [])) ∷ lines_of cut.rest =
-            ap (λ m. lines_of (line ++ m)) cut.is ∙ ap lines_of (sym (append_assoc line cut.visible (10 ∷ cut.rest))) ∙ lines_feed (line ++ cut.visible) cut.rest (joined cut.visible cut.no_feed) ∙ ap (λ l. l ∷ lines_of cut.rest) (sym whole) in
+        ap (λ m. lines_of (line ++ m)) cut.is ∙ ap lines_of (sym (append_assoc line cut.visible (10 ∷ cut.rest))) ∙ lines_feed (line ++ cut.visible) cut.rest (joined cut.visible cut.no_feed) ∙ ap (λ l. l ∷ lines_of cut.rest) (sym whole) in
         record { ending = cut.visible ++ 10 ∷ []; rest = cut.rest; told = told_first line (line ++ (cut.visible ++ 10 ∷ [])) (lines_of cut.rest) (line ++ more) lines (begins_on 99 line (cut.visible ++ 10 ∷ []) unfinished.some ∙ plain); closed = λ e. absurd (not_both line e unfinished) }
 
 -- ---- one more line

@@ -1,15 +1,14 @@
 -- The words of a formula's clauses: with what they go on, how they end, and that they can always be completed.
-use Rattle.std.proofs.Common.{◌≡◌, ◌≢◌, ℕ, ℤ, pos, suc, zero, ◌+◌, ◌-◌, ◌<◌, ◌≤◌, Bool, true, false, ◌⊎◌, ◌==◌, List, [], ◌∷◌, ◌++◌, length, get_or, map, replicate, All, unsigned_abs, refl, sym, ◌∙◌, ap, subst, arith, append_assoc, length-append, inl, inr, ne_eqb}
-use Rattle.std.specs.List.{list_any, flat_map}
-use Rattle.std.specs.Fmt.{decimal, signed_decimal}
-use Rattle.std.proofs.lemmas.List.{append-nil, map-append, get_or_append_left, get_or_at}
-use Rattle.std.proofs.lemmas.List.Elements.{All-nil, All-head, All-tail, All-append}
+use Rattle.std.proofs.Common.{◌≡◌, ◌≢◌, ℕ, ℤ, pos, suc, zero, ◌+◌, ◌<◌, ◌≤◌, ◌⊎◌, ◌==◌, List, [], ◌∷◌, ◌++◌, length, get_or, map, replicate, All, unsigned_abs, refl, sym, ◌∙◌, ap, subst, arith, append_assoc, length-append, inl, inr, ne_eqb}
+use Rattle.std.specs.Fmt.{signed_decimal}
+use Rattle.std.proofs.lemmas.List.{append-nil, get_or_append_left, get_or_at}
+use Rattle.std.proofs.lemmas.List.Elements.{All-head, All-tail}
 use Rattle.std.proofs.lemmas.List.Folds.{list_any_none}
-use Rattle.cnf_form.specs.Literals.{most, IsLiteral, IsClause, NamesOnce, AreClauses, NamesUpTo}
+use Rattle.cnf_form.specs.Literals.{IsLiteral, IsClause, NamesUpTo}
 use Rattle.cnf_form.specs.Forms.{numbers_of, IsFormula}
-use Rattle.cnf_form.specs.Reading.{IsUnnamed, IsNew, IsFront, front_words, GoesOnBy, AreOfFormula, Reaches}
-use Rattle.cnf_form.proofs.OneFormula.{AllSmall, same_numbers, same_clause, no_number, small_clause, small_clauses, not_zero}
-use Rattle.cnf_form.proofs.Fronts.{ended, ended_words, longer, longer_words}
+use Rattle.cnf_form.specs.Reading.{IsNew, IsFront, front_words, GoesOnBy, AreOfFormula}
+use Rattle.cnf_form.proofs.OneFormula.{AllSmall, same_numbers, same_clause, no_number, small_clauses, not_zero}
+use Rattle.cnf_form.proofs.Fronts.{ended, ended_words}
 
 -- ---- small numbers
 
@@ -165,5 +164,9 @@ completed zero variables count clauses literals front is =
     record { clauses = clauses; formula = whole_formula variables count clauses literals front; number = omega arith; same = append-nil (front_words clauses literals) ∙ enough variables count clauses literals front (omega arith) }
 completed (suc k) variables count clauses literals front is =
     let rest = completed k variables count (clauses ++ literals ∷ []) [] (ended variables count clauses literals front (omega arith)) (omega (arith, length-append clauses (literals ∷ []))) in
-    record { clauses = rest.clauses; formula = rest.formula; number = rest.number;
-        same = sym (append_assoc (front_words clauses literals) (signed_decimal (pos 0) ∷ []) (replicate k (signed_decimal (pos 0)))) ∙ ap (λ ws. ws ++ replicate k (signed_decimal (pos 0))) (sym (ended_words clauses literals)) ∙ rest.same }
+    record {
+      clauses = rest.clauses;
+      formula = rest.formula;
+      number = rest.number;
+      same = sym (append_assoc (front_words clauses literals) (signed_decimal (pos 0) ∷ []) (replicate k (signed_decimal (pos 0)))) ∙ ap (λ ws. ws ++ replicate k (signed_decimal (pos 0))) (sym (ended_words clauses literals)) ∙ rest.same;
+    }

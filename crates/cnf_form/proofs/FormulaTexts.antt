@@ -1,17 +1,17 @@
 -- The lines of a formula's text: what they begin, and where they break off.
-use Rattle.std.proofs.Common.{◌≡◌, ℕ, ℤ, pos, suc, zero, ◌+◌, ◌-◌, ◌<◌, ◌≤◌, Bool, true, false, not, ◌⊎◌, ◌==◌, List, [], ◌∷◌, ◌++◌, length, map, replicate, filter, unsigned_abs, codes, refl, sym, ◌∙◌, ap, subst, arith, append_assoc, length-append, inl, inr}
-use Rattle.std.specs.List.{list_all, flat_map}
+use Rattle.std.proofs.Common.{◌≡◌, ℕ, pos, suc, zero, ◌+◌, ◌-◌, ◌<◌, ◌≤◌, true, false, not, ◌⊎◌, ◌==◌, List, [], ◌∷◌, ◌++◌, length, replicate, unsigned_abs, codes, refl, sym, ◌∙◌, ap, subst, arith, append_assoc, inl, inr}
+use Rattle.std.specs.List.{flat_map}
 use Rattle.std.specs.Fmt.{decimal, signed_decimal}
 use Rattle.std.proofs.lemmas.List.{append-nil}
 use Rattle.std.proofs.lemmas.List.Concat.{flat_map-append}
-use Rattle.std.proofs.lemmas.Fmt.{decimal_injective, decimal_digit}
+use Rattle.std.proofs.lemmas.Fmt.{decimal_injective}
 use Rattle.std.proofs.lemmas.List.Elements.{All-nil}
 use Rattle.std.proofs.lemmas.List.Folds.{list_all-append}
 use Rattle.cnf_form.specs.Literals.{most, IsClause, NamesUpTo}
-use Rattle.cnf_form.specs.Lines.{lines_of, Begins, LeavesAt}
-use Rattle.cnf_form.specs.Forms.{words, begins_with, told_lines, numbers_of, IsFormula, IsCnfText, IsFormulaText}
-use Rattle.cnf_form.specs.Passing.{HasNoFeed, EndsInFeed, IsUnfinished, CutsLine, IsHead, AreLines, AreComments, AreClauseLines, IsNoHead, StopsInHead}
-use Rattle.cnf_form.specs.Reading.{IsFront, front_words, AreOfFormula, Reaches, BreaksOff, StopsShort}
+use Rattle.cnf_form.specs.Lines.{Begins}
+use Rattle.cnf_form.specs.Forms.{words, begins_with, told_lines, IsFormula, IsFormulaText}
+use Rattle.cnf_form.specs.Passing.{HasNoFeed, EndsInFeed, IsUnfinished, IsHead, AreLines, AreComments, AreClauseLines, IsNoHead, StopsInHead}
+use Rattle.cnf_form.specs.Reading.{front_words, AreOfFormula, Reaches, BreaksOff, StopsShort}
 use Rattle.cnf_form.proofs.OneFormula.{same_head, third}
 use Rattle.cnf_form.proofs.Heads.{zero_is}
 use Rattle.cnf_form.proofs.Fronts.{empty_clause}

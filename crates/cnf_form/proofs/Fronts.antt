@@ -1,6 +1,6 @@
 -- The clauses of a formula while they are read: one more literal, one more clause, and which numbers lead to a new variable.
-use Rattle.std.proofs.Common.{◌≡◌, ◌≢◌, ℕ, ℤ, pos, suc, zero, ◌+◌, ◌*◌, ◌^◌, ◌<◌, ◌≤◌, Bool, true, false, not, cond, ◌||◌, ◌⊎◌, ◌==◌, nat_eq, List, [], ◌∷◌, ◌++◌, length, get_or, map, All, unsigned_abs, refl, sym, ◌∙◌, ap, subst, arith, append_assoc, length-append, eq-eqb, inl, inr}
-use Rattle.std.specs.List.{list_any, flat_map}
+use Rattle.std.proofs.Common.{◌≡◌, ◌≢◌, ℕ, ℤ, pos, suc, zero, ◌*◌, ◌^◌, ◌<◌, ◌≤◌, Bool, true, false, cond, ◌||◌, ◌⊎◌, ◌==◌, nat_eq, List, [], ◌∷◌, ◌++◌, length, get_or, map, unsigned_abs, refl, sym, ◌∙◌, ap, arith, append_assoc, length-append, eq-eqb, inl, inr}
+use Rattle.std.specs.List.{list_any}
 use Rattle.std.specs.Fmt.{signed_decimal}
 use Rattle.std.proofs.Math.Nat.{pow-succ', one-le-pow, mul_assoc, mul-le-mul_left}
 use Rattle.std.proofs.lemmas.Bool.{false≢true}
@@ -10,7 +10,7 @@ use Rattle.std.proofs.lemmas.List.Concat.{flat_map-append}
 use Rattle.std.proofs.lemmas.List.Folds.{list_any-append, list_any_at}
 use Rattle.std.proofs.lemmas.List.Elements.{All-nil, All-push}
 use Rattle.std.proofs.lemmas.List.Quantifiers.{all_pairs_push}
-use Rattle.cnf_form.specs.Literals.{most, IsLiteral, IsClause, NamesOnce, AreClauses, NamesUpTo}
+use Rattle.cnf_form.specs.Literals.{most, IsLiteral, IsClause, NamesUpTo}
 use Rattle.cnf_form.specs.Forms.{numbers_of}
 use Rattle.cnf_form.specs.Reading.{IsUnnamed, IsNew, IsFront, front_words, GoesOnBy, LeadsToNew, LeadsAtOnce}
 use Rattle.cnf_form.proofs.OneFormula.{small_mag}

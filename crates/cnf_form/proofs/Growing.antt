@@ -1,14 +1,14 @@
 -- Which numbers begin with the digits of another, and which words may still grow.
-use Rattle.std.proofs.Common.{◌≡◌, ◌≢◌, ℕ, ℤ, pos, negsuc, suc, zero, ◌+◌, ◌-◌, ◌*◌, ◌/◌, ◌%◌, ◌^◌, ◌<◌, ◌≤◌, Bool, true, false, List, [], ◌∷◌, ◌++◌, length, get_or, take, codes, unsigned_abs, refl, sym, ◌∙◌, ap, subst, arith, append_assoc, length-append, ◌⊎◌, inl, inr}
+use Rattle.std.proofs.Common.{◌≡◌, ◌≢◌, ℕ, ℤ, pos, negsuc, suc, zero, ◌+◌, ◌*◌, ◌/◌, ◌%◌, ◌^◌, ◌<◌, ◌≤◌, List, [], ◌∷◌, ◌++◌, length, get_or, unsigned_abs, refl, sym, ◌∙◌, ap, subst, arith, append_assoc, length-append, ◌⊎◌, inl, inr}
 use Rattle.std.specs.Fmt.{decimal, signed_decimal}
 use Rattle.std.specs.Char.{digit_value}
 use Rattle.std.specs.Str.Parse.{AllDigits, digits_value, digits_value_after}
 use Rattle.std.proofs.Math.Nat.{pow-suc, pow-succ', one-le-pow, mul_assoc, mul-le-mul_left, mul-le-mul_right}
 use Rattle.std.proofs.lemmas.List.{append-nil, get_or_append_left}
 use Rattle.std.proofs.lemmas.Str.Parse.{digit_at}
-use Rattle.std.proofs.lemmas.Fmt.{decimal_injective, digits_decimal, digits_value-decimal, decimal_nonempty, decimal_by_steps, decimal_step, decimal_digit, first_decimal}
+use Rattle.std.proofs.lemmas.Fmt.{digits_decimal, digits_value-decimal, decimal_nonempty, decimal_by_steps, decimal_step, decimal_digit, first_decimal}
 use Rattle.cnf_form.specs.Literals.{most}
-use Rattle.cnf_form.specs.Reading.{IsUnnamed, IsNew, GoesOnBy, Grows, LeadsToNew}
+use Rattle.cnf_form.specs.Reading.{IsUnnamed, IsNew, Grows, LeadsToNew}
 use Rattle.cnf_form.proofs.Decimals.{own, zero_alone, decimal_of, no_digit}
 
 AllDigits-left : (xs ys : List ℕ) → AllDigits 10 (xs ++ ys) → AllDigits 10 xs
@@ -76,8 +76,8 @@ pub some_row : (v : ℕ) → v < 2 ^ 64 → 0 < v → (k : ℕ) × (1 * 10 ^ k �
 some_row v small = decimal_by_steps (λ n _. 0 < n → (k : ℕ) × (1 * 10 ^ k ≤ n) × (n < 10 * 10 ^ k))
     (λ n h some. (0, omega arith, omega arith))
     (λ n ds h before some.
-        let row = before (omega arith) in
-        (suc row.0, omega (arith, row.1, shift_out 1 row.0), omega (arith, row.2, shift_out 10 row.0)))
+    let row = before (omega arith) in
+    (suc row.0, omega (arith, row.1, shift_out 1 row.0), omega (arith, row.2, shift_out 10 row.0)))
     v small
 
 -- ---- the front of a number
@@ -91,7 +91,7 @@ number_front bytes more n some small same =
     let one = one-le-pow (length more) 10 (omega arith) in
     let less : digits_value 10 bytes * 1 ≤ digits_value 10 bytes * 10 ^ length more = mul-le-mul_left (digits_value 10 bytes) one in
     let plain : ¬ ((1 < length bytes) × (get_or bytes 0 0 ≡ 48)) = λ padded.
-        omega (arith, padded.0, length-append bytes more, ap length same, zero_alone n (omega arith) (ap (λ ds. get_or ds 0 0) (sym same) ∙ get_or_append_left bytes more 0 0 some ∙ padded.1)) in
+    omega (arith, padded.0, length-append bytes more, ap length same, zero_alone n (omega arith) (ap (λ ds. get_or ds 0 0) (sym same) ∙ get_or_append_left bytes more 0 0 some ∙ padded.1)) in
     (digits_value 10 bytes, omega arith, decimal_of bytes digits some plain (omega arith))
 
 -- a number does not begin with a minus

@@ -1,5 +1,5 @@
 -- The line `p cnf V C`, word by word.
-use Rattle.std.proofs.Common.{◌≡◌, ◌≢◌, ℕ, suc, zero, ◌+◌, ◌<◌, ◌≤◌, Bool, true, false, ◌⊎◌, List, [], ◌∷◌, ◌++◌, length, get_or, codes, refl, sym, ◌∙◌, ap, subst, arith, append_assoc, length-append}
+use Rattle.std.proofs.Common.{◌≡◌, ◌≢◌, ℕ, ◌<◌, ◌≤◌, true, List, [], ◌∷◌, ◌++◌, length, codes, refl, sym, ◌∙◌, ap, arith, length-append}
 use Rattle.std.specs.Fmt.{decimal}
 use Rattle.std.proofs.lemmas.Bool.{false≢true}
 use Rattle.std.proofs.lemmas.List.{append-nil}
@@ -7,9 +7,9 @@ use Rattle.std.proofs.lemmas.Fmt.{decimal_digit}
 use Rattle.cnf_form.specs.declared.head.Head.{Head}
 use Rattle.cnf_form.specs.declared.head.Head.TheVariants.{Is, MayGrow, Breaks}
 use Rattle.cnf_form.specs.Literals.{most}
-use Rattle.cnf_form.specs.Forms.{is_gap, words, begins_with}
+use Rattle.cnf_form.specs.Forms.{words, begins_with}
 use Rattle.cnf_form.specs.Words.{AreGaps, CutsWord}
-use Rattle.cnf_form.specs.Passing.{HasNoFeed, EndsInFeed, IsUnfinished, IsHead, IsNoHead, StopsInHead, IsHeadOf, LacksWord, BeginsApart, UpTo}
+use Rattle.cnf_form.specs.Passing.{HasNoFeed, IsNoHead, StopsInHead, IsHeadOf, LacksWord, BeginsApart, UpTo}
 use Rattle.cnf_form.proofs.Wording.{words-gaps}
 use Rattle.cnf_form.proofs.Growing.{number_front}
 use Rattle.cnf_form.proofs.LineWords.{at_word, at_open, solid_front, open_end, no_word, nothing_apart}

@@ -1,19 +1,18 @@
 -- What the words of a line do with the clauses before it.
-use Rattle.std.proofs.Common.{◌≡◌, ◌≢◌, ℕ, ℤ, pos, suc, zero, ◌+◌, ◌<◌, ◌≤◌, Bool, true, false, not, ◌&&◌, ◌⊎◌, ◌==◌, List, [], ◌∷◌, ◌++◌, length, get_or, unsigned_abs, refl, sym, ◌∙◌, ap, subst, arith, append_assoc, length-append, inl, inr, ne_eqb}
+use Rattle.std.proofs.Common.{◌≡◌, ◌≢◌, ℕ, ℤ, pos, ◌<◌, Bool, true, false, not, ◌&&◌, ◌⊎◌, List, [], ◌∷◌, ◌++◌, length, refl, sym, ◌∙◌, ap, subst, arith, append_assoc, length-append, inl, inr, ne_eqb}
 use Rattle.std.specs.List.{list_all}
 use Rattle.std.specs.Fmt.{signed_decimal}
 use Rattle.std.proofs.lemmas.Bool.{false≢true}
 use Rattle.std.proofs.lemmas.List.{append-nil}
 use Rattle.std.proofs.lemmas.List.Folds.{list_all-append}
-use Rattle.cnf_form.specs.Literals.{most}
 use Rattle.cnf_form.specs.Forms.{is_gap, words}
 use Rattle.cnf_form.specs.Words.{AreGaps, IsSolid, CutsWord}
 use Rattle.cnf_form.specs.Passing.{HasNoFeed, EndsInFeed, BeginsApart, UpTo}
 use Rattle.cnf_form.specs.declared.front.Front.{Front}
 use Rattle.cnf_form.specs.declared.course.Course.{Course}
 use Rattle.cnf_form.specs.declared.course.Course.TheVariants.{Fits, MayGrow, Breaks}
-use Rattle.cnf_form.specs.Reading.{IsNew, IsFront, front_words, GoesOnBy, Grows, AreOfFormula, Reaches, BreaksOff, StopsShort, Keeps, TakesLine, EndsAt, GrowsAtEnd}
-use Rattle.cnf_form.proofs.Written.{AllNumeric, IsNumeric, IsNumeric-signed, words-word}
+use Rattle.cnf_form.specs.Reading.{IsNew, IsFront, front_words, GoesOnBy, Grows, AreOfFormula, Reaches, BreaksOff, StopsShort, Keeps, TakesLine, EndsAt}
+use Rattle.cnf_form.proofs.Written.{AllNumeric, IsNumeric-signed, words-word}
 use Rattle.cnf_form.proofs.Wording.{words-gaps, words-solid, words-last, cut_whole, cut_open}
 use Rattle.cnf_form.proofs.Fronts.{ended, ended_words, longer, longer_words}
 use Rattle.cnf_form.proofs.Growing.{small_number}
@@ -118,6 +117,7 @@ stops_short variables count clauses literals seen line rest word after front up 
           ∙ sym (at_open seen line rest (front_words clauses literals) word after (grows.more ++ 10 ∷ []) up cut last))
           (went_on variables count clauses literals grows.number front goes.room goes.fits);
     }
+
 pub breaks_off : (variables count : ℕ) (clauses : List (List ℤ)) (literals : List ℤ) (seen : List (List ℕ)) (line rest word after : List ℕ) → IsFront variables count clauses literals → UpTo seen line rest (front_words clauses literals) → CutsWord rest word after
     → (length after ≡ 0 → ¬ Grows variables count clauses literals word) → ((number : ℤ) → ¬ GoesOnBy variables count clauses literals word number) → BreaksOff variables count seen line
 breaks_off variables count clauses literals seen line rest word [] front up cut stuck none = record {

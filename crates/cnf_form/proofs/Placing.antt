@@ -1,17 +1,16 @@
 -- The reader of a formula, one line further, and where it stops.
-use Rattle.std.proofs.Common.{◌≡◌, ◌≢◌, ℕ, ℤ, ◌+◌, ◌<◌, ◌≤◌, true, false, ◌⊎◌, List, [], ◌∷◌, ◌++◌, length, refl, sym, ◌∙◌, ap, subst, arith, append_assoc, length-append, codes, inl, inr}
+use Rattle.std.proofs.Common.{◌≡◌, ◌≢◌, ℕ, ◌+◌, ◌<◌, true, false, ◌⊎◌, List, [], ◌∷◌, ◌++◌, length, refl, sym, ◌∙◌, ap, subst, arith, append_assoc, length-append, codes, inl, inr}
 use Rattle.std.specs.List.{flat_map}
 use Rattle.std.specs.Fmt.{decimal}
 use Rattle.std.proofs.lemmas.List.{append-nil}
 use Rattle.cnf_form.specs.declared.front.Front.{Front}
-use Rattle.cnf_form.specs.declared.course.Course.{Course}
 use Rattle.cnf_form.specs.declared.course.Course.TheVariants.{Fits, MayGrow, Breaks}
 use Rattle.cnf_form.specs.Lines.{lines_of, Begins, LeavesAt}
 use Rattle.cnf_form.specs.Forms.{words, begins_with, told_lines, IsCnfText, IsFormulaText}
 use Rattle.cnf_form.specs.Passing.{EndsInFeed, IsUnfinished, CutsLine, IsHead, AreLines, AreComments, AreClauseLines, IsNoHead, StopsInHead}
-use Rattle.cnf_form.specs.Reading.{front_words, Keeps, AreOfFormula, Reaches, BreaksOff, StopsShort, WentOn, TakesLine, TakesTold, SkipsComment, TakesPlain}
+use Rattle.cnf_form.specs.Reading.{front_words, Keeps, AreOfFormula, Reaches, TakesTold}
 use Rattle.cnf_form.specs.Places.{MayFollow, IsAt, InComments, BehindHead, InClauses}
-use Rattle.cnf_form.proofs.Advancing.{Anything, Joins, joins_feed, joins_end, one_line, one_comment, one_head, one_more, comment_between, told_with}
+use Rattle.cnf_form.proofs.Advancing.{Anything, Joins, joins_feed, joins_end, one_line, one_comment, one_head, one_more, comment_between}
 use Rattle.cnf_form.proofs.Leaving.{leaves_here, leaves_end}
 use Rattle.cnf_form.proofs.Bodies.{too_few, enough, whole_formula}
 use Rattle.cnf_form.proofs.FormulaTexts.{of_lines, viable_comments, comment_begins, between_begins, clauses_begin, head_begins, head_breaks, clauses_break, head_stops, head_not_yet, clauses_stop, clauses_not_yet}
@@ -173,8 +172,8 @@ missing_clauses text rest n front keeps place none short =
     let few : length front.clauses.items < front.count = omega (arith, short) in
     leaves_end IsFormulaText text n
     (λ is. too_few front.variables front.count front.clauses.items front.literals.items keeps.is_front few
-        (subst (λ ws. AreOfFormula front.variables front.count ws) (append-nil (front_words front.clauses.items front.literals.items))
-        (of_lines (MayFollow rest) place.before [] n front.variables front.count (front_words front.clauses.items front.literals.items) place.is_at.lines place.clauses (λ e. refl) (λ e. refl) (subst IsFormulaText (whole ∙ sym (append-nil place.before)) is))))
+    (subst (λ ws. AreOfFormula front.variables front.count ws) (append-nil (front_words front.clauses.items front.literals.items))
+    (of_lines (MayFollow rest) place.before [] n front.variables front.count (front_words front.clauses.items front.literals.items) place.is_at.lines place.clauses (λ e. refl) (λ e. refl) (subst IsFormulaText (whole ∙ sym (append-nil place.before)) is))))
     (subst (Begins IsFormulaText) (sym whole) place.is_at.begins)
     (ap (λ t. length (lines_of t)) whole ∙ place.is_at.lines.count)
 

@@ -1,5 +1,5 @@
 -- The lines of a text, one by one.
-use Rattle.std.specs.Prelude.{◌≡◌, ◌≤◌, ◌<◌, ◌+◌, ◌==◌, ℕ, not, true, false, codes, List, [], ◌∷◌, ◌++◌, ◌⊎◌, length, slice_index}
+use Rattle.std.specs.Prelude.{◌≡◌, ◌≤◌, ◌<◌, ◌==◌, ℕ, not, true, codes, List, [], ◌∷◌, ◌++◌, ◌⊎◌, length, slice_index}
 use Rattle.std.specs.List.{list_all, flat_map}
 use Rattle.std.specs.Fmt.{decimal}
 use Rattle.cnf_form.specs.declared.head.Head.{Head}

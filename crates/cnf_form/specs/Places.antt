@@ -4,7 +4,7 @@ use Rattle.cnf_form.specs.declared.front.Front.{Front}
 use Rattle.cnf_form.specs.Lines.{Begins}
 use Rattle.cnf_form.specs.Forms.{IsFormulaText}
 use Rattle.cnf_form.specs.Passing.{AreLines, AreComments, AreClauseLines}
-use Rattle.cnf_form.specs.Reading.{Keeps, front_words}
+use Rattle.cnf_form.specs.Reading.{front_words}
 
 -- what may follow the lines before `rest`: where it is empty their last one may lack its line feed, and nothing may
 abbrev pub MayFollow : List ℕ → List ℕ → Type 0

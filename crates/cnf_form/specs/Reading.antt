@@ -1,10 +1,8 @@
 -- The clauses of a formula while its words are read one by one.
-use Rattle.std.specs.Prelude.{◌≡◌, ◌==◌, ◌≤◌, ◌<◌, ◌+◌, ◌*◌, ◌^◌, ℕ, ℤ, pos, nat_eq, true, false, List, [], ◌∷◌, ◌++◌, ◌⊎◌, length, map, unsigned_abs, All}
+use Rattle.std.specs.Prelude.{◌≡◌, ◌==◌, ◌≤◌, ◌<◌, ◌*◌, ◌^◌, ℕ, ℤ, pos, nat_eq, true, false, List, [], ◌∷◌, ◌++◌, ◌⊎◌, length, map, unsigned_abs, All}
 use Rattle.std.specs.List.{list_any}
 use Rattle.std.specs.Fmt.{signed_decimal}
-use Rattle.std.specs.HashSet.{HashSet, contains}
-use Rattle.std.specs.declared.hash.FoldHasher.{FoldHasher}
-use Rattle.std.specs.declared.hash.BuildHasherDefault.{BuildHasherDefault}
+use Rattle.std.specs.HashSet.{contains}
 use Rattle.cnf_form.specs.declared.front.Front.{Front}
 use Rattle.cnf_form.specs.declared.course.Course.{Course}
 use Rattle.cnf_form.specs.declared.course.Course.TheVariants.{Fits, MayGrow, Breaks}

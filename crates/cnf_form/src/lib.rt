@@ -10,13 +10,13 @@ mod clause_line;
 mod cnf;
 mod course;
 mod form_fault;
+mod formula;
 mod front;
 mod head;
 mod law;
 mod line;
 mod log;
 mod number;
-mod formula;
 mod word;
 mod write;
 
@@ -24,9 +24,9 @@ pub use assignment::Assignment;
 pub use clause::Clause;
 pub use cnf::Cnf;
 pub use form_fault::FormFault;
-pub use law::one_formula;
-pub use log::{Log, LogLine};
 pub use formula::read_cnf;
+pub use law::{one_formula, read_again};
+pub use log::{Log, LogLine};
 pub use write::{write_cnf, write_log};
 
 #[cfg(test)]

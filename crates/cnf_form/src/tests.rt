@@ -107,10 +107,7 @@ fn texts_of_formulas_are_read(rt: HostRuntime) -> Result<(), Fail> {
         ("p cnf 1 1\ncnf\n1 0\n", "p cnf 1 1\n1 0\n"),
         ("p cnf 2 2\n1 0 2 0\n", "p cnf 2 2\n1 0\n2 0\n"),
         ("p cnf 2 1\n\n\n1\n\n2\n0", "p cnf 2 1\n1 2 0\n"),
-        (
-            "p  cnf\t2   1 \t\n\t 1  2\t0 \n",
-            "p cnf 2 1\n1 2 0\n",
-        ),
+        ("p  cnf\t2   1 \t\n\t 1  2\t0 \n", "p cnf 2 1\n1 2 0\n"),
         ("p cnf 1 1\n0", "p cnf 1 1\n0\n"),
         (
             "p cnf 2147483647 1\n-2147483647 0\n",
@@ -183,7 +180,11 @@ fn other_texts_leave_the_form_of_a_formula(rt: HostRuntime) -> Result<(), Fail> 
         ("p cnf 10 1\n1 10 1", 1),
         ("p cnf 1 0\n-", 1),
     ] {
-        assert_eq!(rt; outcome(alloc, text.as_bytes())?.err(), Some(line), "{text:?}");
+        assert_eq!(rt;
+            outcome(alloc, text.as_bytes())?.err(),
+            Some(line),
+            "{text:?}"
+        );
     }
     Ok(())
 }

@@ -1,4 +1,4 @@
-use Rattle.std.proofs.Common.{◌≡◌, ◌<◌, ℤ, FitsSigned, w32, [], ◌++◌, ◌∷◌, refl, sym, ◌∙◌, ap, rules}
+use Rattle.std.proofs.Common.{FitsSigned, w32, [], ◌++◌, ◌∷◌, refl, sym, ◌∙◌, ap, rules}
 use Rattle.std.specs.Fmt.{signed_decimal}
 use Rattle.std.proofs.lemmas.Int.{to_z-of_z}
 use Rattle.cnf_form.specs.Reading.{front_words}

@@ -1,4 +1,4 @@
-use Rattle.std.proofs.Common.{◌≡◌, ◌<◌, length, subst, arith}
+use Rattle.std.proofs.Common.{length, subst, arith}
 use Rattle.cnf_form.specs.Reading.{TakesTold}
 use Rattle.cnf_form.proofs.Leaving.{not_empty, is_empty}
 use Rattle.cnf_form.proofs.Placing.{next_clauses, no_clauses_here, clauses_cut_off, missing_clauses, whole_text, shorter}
@@ -20,7 +20,7 @@ pub loop-rest-preserved : goal.loop-rest-preserved
 loop-rest-preserved c =
     let some = not_empty (length c.loop-rest.rest.now) c.is_empty.result c.is_empty.ensures c.loop-rest-test.true in
     let further = next_clauses c.args.text.now c.loop-rest.rest.now c.first_line.result.0.now c.first_line.result.1.now c.loop-rest.line c.loop-rest.front c.read_line.new.front c.loop-rest.invariant.keeps c.loop-rest.invariant.place c.first_line.ensures some
-        (subst (TakesTold c.loop-rest.front c.read_line.new.front c.first_line.result.0.now) c.in-Fits.is c.in_ok-read_line.ensures) in
+    (subst (TakesTold c.loop-rest.front c.read_line.new.front c.first_line.result.0.now) c.in-Fits.is c.in_ok-read_line.ensures) in
     record { keeps = further.keeps; place = further.place }
 
 pub loop-rest-smaller : goal.loop-rest-smaller

@@ -1,7 +1,6 @@
 use Rattle.std.proofs.Common.{◌≡◌, codes, decimal, [], ◌∷◌, ◌++◌, refl, sym, ap, arith}
-use Rattle.cnf_form.specs.Passing.{UpTo}
 use Rattle.cnf_form.proofs.LineWords.{one_word}
-use Rattle.cnf_form.proofs.Heads.{no_head, no_number_at, lacks, head_words, zero_is, apart_blank}
+use Rattle.cnf_form.proofs.Heads.{no_head, no_number_at, lacks, zero_is, apart_blank}
 use Rattle.cnf_form.proofs.head.head_behind_cnf.Goals as goal
 
 pub returns-in_default : goal.returns-in_default
@@ -14,8 +13,8 @@ returns-in_default-number_of c =
     let cut = c.in-Some.ensures.some in
     no_head c.args.line.now c.args.rest.now (codes "p" ∷ codes "cnf" ∷ []) c.in-Some.word.now c.in-Some.after.now c.requires.up_to cut
     (λ variables count ending others few few_too closed same.
-        let third : c.in-Some.word.now ++ ending ≡ decimal variables = cc in
-        no_number_at c.in-Some.word.now ending variables c.from.result c.from.ensures cut.some few c.in_default-number_of.ensures third)
+    let third : c.in-Some.word.now ++ ending ≡ decimal variables = cc in
+    no_number_at c.in-Some.word.now ending variables c.from.result c.from.ensures cut.some few c.in_default-number_of.ensures third)
 
 pub head_behind_variables-requires-clause-up_to : goal.head_behind_variables-requires-clause-up_to
 head_behind_variables-requires-clause-up_to c =

@@ -1,10 +1,9 @@
-use Rattle.std.proofs.Common.{◌≡◌, ◌<◌, codes, decimal, [], ◌∷◌, ◌++◌, length, true, refl, sym, ◌∙◌, ap, arith}
+use Rattle.std.proofs.Common.{◌≡◌, ◌<◌, codes, [], ◌∷◌, ◌++◌, length, refl, sym, ◌∙◌, ap, arith}
 use Rattle.std.proofs.lemmas.Bool.{false≢true}
 use Rattle.std.proofs.lemmas.List.{append-nil}
 use Rattle.cnf_form.specs.Forms.{words}
-use Rattle.cnf_form.specs.Passing.{UpTo}
 use Rattle.cnf_form.proofs.LineWords.{one_word}
-use Rattle.cnf_form.proofs.Heads.{no_head, front_of_cnf, lacks, stops_in_word, head_words, zero_is, apart_blank}
+use Rattle.cnf_form.proofs.Heads.{no_head, front_of_cnf, lacks, stops_in_word, zero_is, apart_blank}
 use Rattle.cnf_form.proofs.head.head_behind_p.Goals as goal
 
 pub returns-in_default : goal.returns-in_default
@@ -23,9 +22,9 @@ returns-then-not-is_empty c =
     let more : 0 < length c.in-Some.after.now = grind arith in
     no_head c.args.line.now c.args.rest.now (codes "p" ∷ []) c.in-Some.word.now c.in-Some.after.now c.requires.up_to cut
     (λ variables count ending others few few_too closed same.
-        let second : c.in-Some.word.now ++ ending ≡ codes "cnf" = cc in
-        let alone : c.in-Some.word.now ≡ codes "cnf" = sym (append-nil c.in-Some.word.now) ∙ ap (λ e. c.in-Some.word.now ++ e) (sym (closed more)) ∙ second in
-        false≢true (sym c.if-is_word.false ∙ c.is_word.ensures.1 alone))
+    let second : c.in-Some.word.now ++ ending ≡ codes "cnf" = cc in
+    let alone : c.in-Some.word.now ≡ codes "cnf" = sym (append-nil c.in-Some.word.now) ∙ ap (λ e. c.in-Some.word.now ++ e) (sym (closed more)) ∙ second in
+    false≢true (sym c.if-is_word.false ∙ c.is_word.ensures.1 alone))
 
 pub returns-then-is_word-2 : goal.returns-then-is_word-2
 returns-then-is_word-2 c =
@@ -46,5 +45,5 @@ returns c =
     let cut = c.in-Some.ensures.some in
     no_head c.args.line.now c.args.rest.now (codes "p" ∷ []) c.in-Some.word.now c.in-Some.after.now c.requires.up_to cut
     (λ variables count ending others few few_too closed same.
-        let second : c.in-Some.word.now ++ ending ≡ codes "cnf" = cc in
-        front_of_cnf c.in-Some.word.now ending cut.some second (λ is. false≢true (sym c.if-is_word-2.false ∙ c.is_word-2.ensures.1 is)) (λ is. false≢true (sym c.if-is_word-3.false ∙ c.is_word-3.ensures.1 is)) (λ is. false≢true (sym c.if-is_word.false ∙ c.is_word.ensures.1 is)))
+    let second : c.in-Some.word.now ++ ending ≡ codes "cnf" = cc in
+    front_of_cnf c.in-Some.word.now ending cut.some second (λ is. false≢true (sym c.if-is_word-2.false ∙ c.is_word-2.ensures.1 is)) (λ is. false≢true (sym c.if-is_word-3.false ∙ c.is_word-3.ensures.1 is)) (λ is. false≢true (sym c.if-is_word.false ∙ c.is_word.ensures.1 is)))

@@ -1,7 +1,6 @@
 use Rattle.std.proofs.Common.{◌≡◌, codes, decimal, [], ◌∷◌, ◌++◌, length, refl, sym, ◌∙◌, ap, arith}
-use Rattle.cnf_form.specs.Passing.{UpTo}
 use Rattle.cnf_form.proofs.LineWords.{one_word, no_word}
-use Rattle.cnf_form.proofs.Heads.{no_head, no_number_at, lacks, head_words, zero_is, apart_blank}
+use Rattle.cnf_form.proofs.Heads.{no_head, no_number_at, lacks, zero_is, apart_blank}
 use Rattle.cnf_form.proofs.head.head_behind_variables.Goals as goal
 
 pub returns-in_default : goal.returns-in_default
@@ -14,8 +13,8 @@ returns-in_default-number_of c =
     let cut = c.in-Some.ensures.some in
     no_head c.args.line.now c.args.rest.now (codes "p" ∷ codes "cnf" ∷ decimal c.args.variables ∷ []) c.in-Some.word.now c.in-Some.after.now c.requires.up_to cut
     (λ variables count ending others few few_too closed same.
-        let fourth : c.in-Some.word.now ++ ending ≡ decimal count = cc in
-        no_number_at c.in-Some.word.now ending count c.from.result c.from.ensures cut.some few_too c.in_default-number_of.ensures fourth)
+    let fourth : c.in-Some.word.now ++ ending ≡ decimal count = cc in
+    no_number_at c.in-Some.word.now ending count c.from.result c.from.ensures cut.some few_too c.in_default-number_of.ensures fourth)
 
 pub returns-in-Some-first_word : goal.returns-in-Some-first_word
 returns-in-Some-first_word c =

@@ -1,6 +1,5 @@
-use Rattle.std.proofs.Common.{◌≡◌, codes, [], ◌∷◌, ◌++◌, true, refl, sym, ◌∙◌, ap}
+use Rattle.std.proofs.Common.{◌≡◌, codes, [], ◌∷◌, ◌++◌, sym, ◌∙◌, ap}
 use Rattle.std.proofs.lemmas.Bool.{false≢true}
-use Rattle.cnf_form.specs.Passing.{UpTo}
 use Rattle.cnf_form.proofs.LineWords.{one_word}
 use Rattle.cnf_form.proofs.Heads.{no_head, only_p, at_start}
 use Rattle.cnf_form.proofs.head.head_of.Goals as goal

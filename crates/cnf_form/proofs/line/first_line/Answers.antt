@@ -1,4 +1,4 @@
-use Rattle.std.proofs.Common.{◌≡◌, ◌==◌, true, false, not, get_or, ap, arith, ne_eqb}
+use Rattle.std.proofs.Common.{◌==◌, not, get_or, ap, ne_eqb}
 use Rattle.cnf_form.proofs.Wording.{all_more}
 use Rattle.cnf_form.proofs.line.first_line.Goals as goal
 

@@ -1,6 +1,5 @@
-use Rattle.std.proofs.Common.{arith, drop, length, take}
-use Rattle.std.proofs.lemmas.List.{take_rest, take_all, length-drop}
-use Rattle.cnf_form.specs.Words.{AreGaps}
+use Rattle.std.proofs.Common.{arith}
+use Rattle.std.proofs.lemmas.List.{take_rest}
 use Rattle.cnf_form.proofs.Wording.{cut}
 use Rattle.cnf_form.proofs.word.first_word.Goals as goal
 

@@ -1,6 +1,5 @@
-use Rattle.std.proofs.Common.{◌≡◌, List, ℤ, [], ◌++◌, ◌∷◌, pos, arith, sym, ◌∙◌, refl}
+use Rattle.std.proofs.Common.{◌≡◌, [], ◌++◌, ◌∷◌, arith}
 use Rattle.std.proofs.lemmas.Grind.{common_steps}
-use Rattle.cnf_form.specs.Reading.{IsFront, Keeps}
 use Rattle.cnf_form.proofs.Fronts.{ended, ended_words}
 use Rattle.cnf_form.proofs.front.Front.end_clause.Goals as goal
 

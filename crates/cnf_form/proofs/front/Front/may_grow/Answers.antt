@@ -1,8 +1,8 @@
-use Rattle.std.proofs.Common.{◌≡◌, ◌≢◌, ◌<◌, ℤ, pos, negsuc, codes, unsigned_abs, ℕ, ◌+◌, FitsSigned, to_z, of_z, w32, rules, true, refl, sym, ◌∙◌, ap, subst, arith}
+use Rattle.std.proofs.Common.{◌≡◌, pos, codes, unsigned_abs, ℕ, ◌+◌, FitsSigned, to_z, of_z, w32, rules, refl, sym, ◌∙◌, ap, subst, arith}
 use Rattle.std.proofs.lemmas.Bool.{false≢true}
 use Rattle.std.proofs.lemmas.Int.{to_z-of_z}
 use Rattle.std.specs.Fmt.{signed_decimal}
-use Rattle.cnf_form.specs.Reading.{Grows, LeadsToNew}
+use Rattle.cnf_form.specs.Reading.{LeadsToNew}
 use Rattle.cnf_form.proofs.Growing.{zero_grows, minus_grows, minus_leads, number_grows, number_leads, stray, some_abs}
 use Rattle.cnf_form.proofs.front.Front.may_grow.Goals as goal
 
@@ -32,6 +32,7 @@ returns c =
     let fits : FitsSigned w32 c.in-Some.number = search rules in
     let value : c.from-variable.result ≡ unsigned_abs c.in-Some.number = c.from-variable.ensures ∙ c.unsigned_abs.ensures.value ∙ ap unsigned_abs (to_z-of_z w32 c.in-Some.number fits) in
     let some = some_abs c.in-Some.number (λ is. c.if-number-eq0.false (ap (λ z. of_z w32 z) is)) in
-    let leads = c.leads_to_new-2.ensures in
-    (λ yes. number_grows s.variables s.count s.clauses.items s.literals.items c.args.word.now c.in-Some.number (omega arith) few c.in-Some.ensures.1 some (subst (λ (n : ℕ). LeadsToNew s.variables s.literals.items n (n + 1)) value (leads.0 yes)),
-    λ grows. leads.1 (subst (λ (n : ℕ). LeadsToNew s.variables s.literals.items n (n + 1)) (sym value) (number_leads s.variables s.count s.clauses.items s.literals.items c.args.word.now c.in-Some.number c.in-Some.ensures.0 c.in-Some.ensures.1 some grows)))
+    let leads = c.leads_to_new-2.ensures in (
+      λ yes. number_grows s.variables s.count s.clauses.items s.literals.items c.args.word.now c.in-Some.number (omega arith) few c.in-Some.ensures.1 some (subst (λ (n : ℕ). LeadsToNew s.variables s.literals.items n (n + 1)) value (leads.0 yes)),
+      λ grows. leads.1 (subst (λ (n : ℕ). LeadsToNew s.variables s.literals.items n (n + 1)) (sym value) (number_leads s.variables s.count s.clauses.items s.literals.items c.args.word.now c.in-Some.number c.in-Some.ensures.0 c.in-Some.ensures.1 some grows)),
+    )

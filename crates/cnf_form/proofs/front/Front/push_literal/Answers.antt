@@ -1,4 +1,4 @@
-use Rattle.std.proofs.Common.{◌≡◌, ℕ, true, cond, nat_eq, ◌++◌, ◌∷◌, [], unsigned_abs, w32, sym, ap, ◌∙◌}
+use Rattle.std.proofs.Common.{◌≡◌, nat_eq, ◌++◌, ◌∷◌, [], unsigned_abs, w32, ap, ◌∙◌}
 use Rattle.std.proofs.lemmas.Int.{to_z-of_z}
 use Rattle.std.specs.HashSet.{contains}
 use Rattle.cnf_form.proofs.Fronts.{longer, longer_words, named_more}
