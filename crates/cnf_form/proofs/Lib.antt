@@ -2,3 +2,14 @@ pub mod Naming
 pub mod Written
 pub mod CnfWritten
 pub mod OneFormula
+pub mod Decimals
+pub mod Wording
+pub mod Fronts
+pub mod Growing
+pub mod Advancing
+pub mod Bodies
+pub mod LineWords
+pub mod Heads
+pub mod Leaving
+pub mod FormulaTexts
+pub mod Placing

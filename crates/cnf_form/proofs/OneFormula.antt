@@ -9,16 +9,16 @@ use Rattle.cnf_form.specs.Literals.{most, IsLiteral, IsClause}
 use Rattle.cnf_form.specs.Forms.{words, numbers_of, IsCnfText}
 
 -- each number has at most 2,147,483,647 as its magnitude
-AllSmall : List ℤ → Type 0
+unfoldable pub AllSmall : List ℤ → Type 0
 AllSmall [] = Unit {0}
 AllSmall (l ∷ ls) = (unsigned_abs l ≤ most) × AllSmall ls
 
-small_mag : (l : ℤ) → unsigned_abs l ≤ most → mag l < 2 ^ 63
+pub small_mag : (l : ℤ) → unsigned_abs l ≤ most → mag l < 2 ^ 63
 small_mag (pos n) small = omega arith
 small_mag (negsuc n) small = omega arith
 
 -- written numbers are those that were written
-same_numbers : (xs ys : List ℤ) → AllSmall xs → AllSmall ys → map signed_decimal xs ≡ map signed_decimal ys → xs ≡ ys
+pub same_numbers : (xs ys : List ℤ) → AllSmall xs → AllSmall ys → map signed_decimal xs ≡ map signed_decimal ys → xs ≡ ys
 unfolding AllSmall
 same_numbers [] [] one other h = refl
 same_numbers [] (y ∷ ys) one other h = cc
@@ -31,13 +31,13 @@ same_numbers (x ∷ xs) (y ∷ ys) one other h =
     cc
 
 -- no literal is 0
-not_zero : (l : ℤ) → IsLiteral l → l ≢ pos 0
+pub not_zero : (l : ℤ) → IsLiteral l → l ≢ pos 0
 not_zero (pos zero) literal same = omega (arith, literal.0)
 not_zero (pos (suc n)) literal same = cc
 not_zero (negsuc n) literal same = cc
 
 -- a clause ends at its 0
-same_clause : (c d ns ms : List ℤ) → All IsLiteral c → All IsLiteral d → (c ++ pos 0 ∷ []) ++ ns ≡ (d ++ pos 0 ∷ []) ++ ms → (c ≡ d) × (ns ≡ ms)
+pub same_clause : (c d ns ms : List ℤ) → All IsLiteral c → All IsLiteral d → (c ++ pos 0 ∷ []) ++ ns ≡ (d ++ pos 0 ∷ []) ++ ms → (c ≡ d) × (ns ≡ ms)
 same_clause [] [] ns ms one other h = (refl, cc)
 same_clause [] (y ∷ ys) ns ms one other h = let e : pos 0 ≡ y = cc in absurd (not_zero y (All-head IsLiteral y ys other) (sym e))
 same_clause (x ∷ xs) [] ns ms one other h = let e : x ≡ pos 0 = cc in absurd (not_zero x (All-head IsLiteral x xs one) e)
@@ -48,7 +48,7 @@ same_clause (x ∷ xs) (y ∷ ys) ns ms one other h =
     let behind : xs ≡ ys = rest.0 in
     (cc, rest.1)
 
-no_number : (c ns : List ℤ) → [] ≢ (c ++ pos 0 ∷ []) ++ ns
+pub no_number : (c ns : List ℤ) → [] ≢ (c ++ pos 0 ∷ []) ++ ns
 no_number [] ns h = cc
 no_number (x ∷ xs) ns h = cc
 
@@ -62,20 +62,20 @@ same_clauses (c ∷ cs) (d ∷ ds) one other h =
     let rest : cs ≡ ds = same_clauses cs ds (All-tail IsClause c cs one) (All-tail IsClause d ds other) split.1 in
     cc
 
-small_clause : (c ns : List ℤ) → All IsLiteral c → AllSmall ns → AllSmall ((c ++ pos 0 ∷ []) ++ ns)
+pub small_clause : (c ns : List ℤ) → All IsLiteral c → AllSmall ns → AllSmall ((c ++ pos 0 ∷ []) ++ ns)
 unfolding AllSmall
 small_clause [] ns each rest = (omega arith, rest)
 small_clause (x ∷ xs) ns each rest = ((All-head IsLiteral x xs each).1, small_clause xs ns (All-tail IsLiteral x xs each) rest)
 
-small_clauses : (cs : List (List ℤ)) → All IsClause cs → AllSmall (numbers_of cs)
+pub small_clauses : (cs : List (List ℤ)) → All IsClause cs → AllSmall (numbers_of cs)
 unfolding AllSmall
 small_clauses [] each = tt
 small_clauses (c ∷ cs) each = small_clause c (numbers_of cs) (All-head IsClause c cs each).each (small_clauses cs (All-tail IsClause c cs each))
 
-same_head : (h k : List ℕ) (b c : List (List ℕ)) → h ∷ b ≡ k ∷ c → (h ≡ k) × (b ≡ c)
+pub same_head : (h k : List ℕ) (b c : List (List ℕ)) → h ∷ b ≡ k ∷ c → (h ≡ k) × (b ≡ c)
 same_head h k b c e = (cc, cc)
 
-third : (p q x y m n : List ℕ) → p ∷ q ∷ x ∷ m ∷ [] ≡ p ∷ q ∷ y ∷ n ∷ [] → x ≡ y
+pub third : (p q x y m n : List ℕ) → p ∷ q ∷ x ∷ m ∷ [] ≡ p ∷ q ∷ y ∷ n ∷ [] → x ≡ y
 third p q x y m n h = cc
 
 pub one_formula : (text : List ℕ) (v w : ℕ) (cs ds : List (List ℤ)) → IsCnfText text v cs → IsCnfText text w ds → (v ≡ w) × (cs ≡ ds)

@@ -61,6 +61,12 @@ pub record IsCnfText (text : List ℕ) (variables : ℕ) (clauses : List (List �
   pub clauses_follow : words (flat_map (λ line. line) body) ≡ map signed_decimal (numbers_of clauses)
   pub formula : IsFormula variables clauses
 
+-- the text is that of a formula
+pub record IsFormulaText (text : List ℕ) : Type 0 where
+  pub variables : ℕ
+  pub clauses : List (List ℤ)
+  pub formula : IsCnfText text variables clauses
+
 -- ---- logs
 
 -- a line of a log: a clause, and hints of 32 bits
@@ -73,3 +79,8 @@ pub record IsLogText (text : List ℕ) (lines : List LogLine) : Type 0 where
   pub written : text ≡ log_text lines
   pub few : length lines ≤ most
   pub each : All IsLogLine lines
+
+-- the text is that of a log
+pub record IsLogFile (text : List ℕ) : Type 0 where
+  pub lines : List LogLine
+  pub log : IsLogText text lines

@@ -3,3 +3,9 @@ pub mod Truth
 pub mod Texts
 pub mod Lines
 pub mod Forms
+pub mod Numbers
+pub mod Words
+pub mod Passing
+pub mod Reading
+pub mod Places
+pub mod Faults

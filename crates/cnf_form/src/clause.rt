@@ -4,7 +4,7 @@ ghost use Rattle.std.specs.Prelude.{◌≡◌, ◌≢◌, ◌↔◌, IsTrue, IsS
 ghost use Rattle.cnf_form.specs.Literals.{IsLiteral, IsClause, NamesOnce, NamesUpTo};
 
 use smallvec::SmallVec;
-use std::alloc::Global;
+use std::alloc::{AllocError, Global};
 use std::marker::Model;
 use wc_outside::NoMemory;
 
@@ -40,6 +40,15 @@ impl Clause {
             Ok(literals) => Ok(Some(Clause { literals })),
             Err(_) => Err(NoMemory),
         }
+    }
+
+    /// The clause of these literals, which are those of a clause.
+    pub(crate) fn of_clause(alloc: Global, literals: &[i32]) -> Result<Clause, AllocError>
+        requires { IsClause literals.now }
+        ensures { IfOk result (λ clause. clause ≡ literals.now) }
+    {
+        let literals = SmallVec::from_slice(alloc, literals)?;
+        Ok(Clause { literals })
     }
 
     /// The literals, in order.

@@ -6,15 +6,26 @@
 
 mod assignment;
 mod clause;
+mod clause_line;
 mod cnf;
+mod course;
+mod form_fault;
+mod formula;
+mod front;
+mod head;
 mod law;
+mod line;
 mod log;
+mod number;
+mod word;
 mod write;
 
 pub use assignment::Assignment;
 pub use clause::Clause;
 pub use cnf::Cnf;
-pub use law::one_formula;
+pub use form_fault::FormFault;
+pub use formula::read_cnf;
+pub use law::{one_formula, read_again};
 pub use log::{Log, LogLine};
 pub use write::{write_cnf, write_log};
 

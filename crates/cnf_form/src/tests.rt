@@ -3,6 +3,7 @@
 use super::*;
 use std::alloc::Global;
 use std::test::Fail;
+use wc_outside::NoMemory;
 
 fn clause(alloc: Global, literals: &[i32]) -> Result<Clause, Fail> {
     Ok(Clause::new(alloc, literals)?.ok_or("no clause")?)
@@ -74,5 +75,116 @@ fn the_square_and_its_log_are_written(rt: HostRuntime) -> Result<(), Fail> {
 fn an_assignment_has_its_values(rt: HostRuntime) -> Result<(), Fail> {
     let values = Vec::from_slice(rt.alloc(), &[true, false])?;
     assert_eq!(rt; Assignment::new(values).values(), [true, false].as_slice());
+    Ok(())
+}
+
+// The formula that a text says, written anew, or the line of its fault.
+fn outcome(alloc: Global, text: &[u8]) -> Result<Result<Vec<u8>, u32>, NoMemory> {
+    if text.len() > 1000 {
+        return Ok(Err(u32::MAX));
+    }
+    match read_cnf(alloc, text) {
+        Ok(cnf) => Ok(Ok(write_cnf(alloc, &cnf)?)),
+        Err(FormFault::NotForm { line }) => Ok(Err(line)),
+        Err(FormFault::NoMemory) => Err(NoMemory),
+    }
+}
+
+#[test]
+fn texts_of_formulas_are_read(rt: HostRuntime) -> Result<(), Fail> {
+    let alloc = rt.alloc();
+    for (text, written) in [
+        ("p cnf 0 0", "p cnf 0 0\n"),
+        ("p cnf 0 0\n", "p cnf 0 0\n"),
+        (
+            "p cnf 2 4\n1 2 0\n1 -2 0\n-1 2 0\n-1 -2 0\n",
+            "p cnf 2 4\n1 2 0\n1 -2 0\n-1 2 0\n-1 -2 0\n",
+        ),
+        ("c hello\np cnf 1 1\n1 0\n", "p cnf 1 1\n1 0\n"),
+        ("c\nc\np cnf 1 1\nc 2 0\n1 0\n", "p cnf 1 1\n1 0\n"),
+        ("p cnf 2 1\n1\nc 2 0\n-2 0\n", "p cnf 2 1\n1 -2 0\n"),
+        ("p cnf 1 1\n1 0\nc after the last", "p cnf 1 1\n1 0\n"),
+        ("p cnf 1 1\ncnf\n1 0\n", "p cnf 1 1\n1 0\n"),
+        ("p cnf 2 2\n1 0 2 0\n", "p cnf 2 2\n1 0\n2 0\n"),
+        ("p cnf 2 1\n\n\n1\n\n2\n0", "p cnf 2 1\n1 2 0\n"),
+        ("p  cnf\t2   1 \t\n\t 1  2\t0 \n", "p cnf 2 1\n1 2 0\n"),
+        ("p cnf 1 1\n0", "p cnf 1 1\n0\n"),
+        (
+            "p cnf 2147483647 1\n-2147483647 0\n",
+            "p cnf 2147483647 1\n-2147483647 0\n",
+        ),
+        ("p cnf 5 0\n\n \nc end\n", "p cnf 5 0\n"),
+        ("p cnf 1 2\n1 0\n-1 0", "p cnf 1 2\n1 0\n-1 0\n"),
+        ("p cnf 1 1\n1 0\n ", "p cnf 1 1\n1 0\n"),
+    ] {
+        let read = outcome(alloc, text.as_bytes())?.map_err(|_| "refused")?;
+        assert_eq!(rt; read.as_slice(), written.as_bytes(), "{text:?}");
+    }
+    Ok(())
+}
+
+#[test]
+fn other_texts_leave_the_form_of_a_formula(rt: HostRuntime) -> Result<(), Fail> {
+    let alloc = rt.alloc();
+    for (text, line) in [
+        // heads
+        ("", 0),
+        ("\n", 0),
+        (" p cnf 0 0\n", 0),
+        ("x\n", 0),
+        ("c only\n", 1),
+        ("c only", 1),
+        ("p", 1),
+        ("p cn", 1),
+        ("p cn ", 0),
+        ("p cnf 1", 1),
+        ("p cnf 1 ", 1),
+        ("p cnf 1\n", 0),
+        ("p dnf 1 1\n", 0),
+        ("pcnf 1 1\n", 0),
+        ("p cnf 1 1 1\n", 0),
+        ("p cnf 01 1\n", 0),
+        ("p cnf -1 0\n", 0),
+        ("p cnf 2147483648 0\n", 0),
+        ("p cnf 1 2147483648", 0),
+        ("c\np cnf x", 1),
+        // numbers of clauses
+        ("p cnf 1 1\n", 1),
+        ("p cnf 1 1\n1\n", 2),
+        ("p cnf 1 1\n1", 2),
+        ("p cnf 2 2\n1 0\n", 2),
+        ("p cnf 2 1\n1 0\n2 0\n", 2),
+        ("p cnf 2 1\n1 0 2 0\n", 1),
+        ("p cnf 2 1\n1 0\n0\n", 2),
+        ("p cnf 1 1\np cnf 1 1\n1 0\n", 1),
+        // literals
+        ("p cnf 2 1\n3 0\n", 1),
+        ("p cnf 2 1\n1 -1 0\n", 1),
+        ("p cnf 2 1\n1\n2\n1 0\n", 3),
+        ("p cnf 2 1\n-0 1 0\n", 1),
+        ("p cnf 2 1\n00\n", 1),
+        ("p cnf 2 1\n01 0\n", 1),
+        ("p cnf 2 1\n+1 0\n", 1),
+        ("p cnf 2 1\n1,2 0\n", 1),
+        ("p cnf 2 1\n1 0 c no comment\n", 1),
+        ("p cnf 2 1\n c 1 0\n", 1),
+        ("p cnf 2 1\n1 0\r\n", 1),
+        ("p cnf 2147483647 1\n2147483648 0\n", 1),
+        ("p cnf 2 1\n99999999999999999999 0\n", 1),
+        // an unfinished last number
+        ("p cnf 2 1\n-", 2),
+        ("p cnf 1 1\n1 -", 1),
+        ("p cnf 12 1\n1 1", 2),
+        ("p cnf 12 1\n1 1\n", 1),
+        ("p cnf 9 1\n1 1", 1),
+        ("p cnf 10 1\n1 10 1", 1),
+        ("p cnf 1 0\n-", 1),
+    ] {
+        assert_eq!(rt;
+            outcome(alloc, text.as_bytes())?.err(),
+            Some(line),
+            "{text:?}"
+        );
+    }
     Ok(())
 }

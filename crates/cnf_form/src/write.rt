@@ -1,9 +1,9 @@
 //! The texts of formulas and logs, written.
 
-ghost use Rattle.std.specs.Prelude.{◌≡◌, ◌+◌, ◌++◌, codes, decimal, IfOk, OnOk};
+ghost use Rattle.std.specs.Prelude.{◌≡◌, ◌+◌, ◌++◌, ◌<◌, ◌^◌, codes, decimal, All, IfOk, OnOk};
 ghost use Rattle.std.specs.List.{flat_map};
 ghost use Rattle.cnf_form.specs.Literals.{AreClauses};
-ghost use Rattle.cnf_form.specs.Forms.{IsCnfText};
+ghost use Rattle.cnf_form.specs.Forms.{IsCnfText, IsLogLine, IsLogText};
 ghost use Rattle.cnf_form.specs.Texts.{literals_text, clause_text, cnf_text, hints_text, line_text, log_text};
 
 use crate::clause::Clause;
@@ -42,13 +42,18 @@ fn cnf_bytes(alloc: Global, cnf: &Cnf) -> Result<Vec<u8>, AllocError>
 /// The text of a log: the line `p log N`, with the number of lines, and then a line each: the literals of its clause,
 /// each followed by a blank, `0`, and per hint a blank and the hint's number plus 1, and ` 0`.
 pub fn write_log(alloc: Global, log: &Log) -> Result<Vec<u8>, NoMemory>
-    ensures { IfOk result (λ text. text.items ≡ log_text log.now.lines) }
+    ensures text { IfOk result (λ text. text.items ≡ log_text log.now.lines) }
+    ensures form { IfOk result (λ text. IsLogText text.items log.now.lines) }
 {
-    log_bytes(alloc, log).map_err(|_| NoMemory)
+    match log_bytes(alloc, log) {
+        Ok(text) => Ok(text),
+        Err(_) => Err(NoMemory),
+    }
 }
 
 fn log_bytes(alloc: Global, log: &Log) -> Result<Vec<u8>, AllocError>
-    ensures { IfOk result (λ text. text.items ≡ log_text log.now.lines) }
+    ensures text { IfOk result (λ text. text.items ≡ log_text log.now.lines) }
+    ensures each { OnOk result (All IsLogLine log.now.lines) }
 {
     let lines = log.lines();
     let mut text = Vec::from_slice(alloc, b"p log ")?;
@@ -88,7 +93,8 @@ fn push_literals(text: &mut Vec<u8>, literals: &[i32]) -> Result<(), AllocError>
 }
 
 fn push_hints(text: &mut Vec<u8>, hints: &[u32]) -> Result<(), AllocError>
-    ensures { OnOk result (text.new.items ≡ text.old.items ++ hints_text hints.now) }
+    ensures text { OnOk result (text.new.items ≡ text.old.items ++ hints_text hints.now) }
+    ensures small { OnOk result (All (λ hint. hint < 2 ^ 32) hints.now) }
 {
     let mut buffer = Buffer::new();
     for hint in hints {
@@ -99,7 +105,8 @@ fn push_hints(text: &mut Vec<u8>, hints: &[u32]) -> Result<(), AllocError>
 }
 
 fn push_line(text: &mut Vec<u8>, line: &LogLine) -> Result<(), AllocError>
-    ensures { OnOk result (text.new.items ≡ text.old.items ++ line_text line.now) }
+    ensures text { OnOk result (text.new.items ≡ text.old.items ++ line_text line.now) }
+    ensures each { OnOk result (IsLogLine line.now) }
 {
     push_literals(text, line.clause.literals())?;
     text.extend_from_slice(b"0")?;
@@ -108,7 +115,8 @@ fn push_line(text: &mut Vec<u8>, line: &LogLine) -> Result<(), AllocError>
 }
 
 fn push_lines(text: &mut Vec<u8>, lines: &[LogLine]) -> Result<(), AllocError>
-    ensures { OnOk result (text.new.items ≡ text.old.items ++ flat_map line_text lines.now) }
+    ensures text { OnOk result (text.new.items ≡ text.old.items ++ flat_map line_text lines.now) }
+    ensures each { OnOk result (All IsLogLine lines.now) }
 {
     for line in lines {
         push_line(text, line)?;

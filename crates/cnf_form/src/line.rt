@@ -1,0 +1,28 @@
+//! Lines: each runs to and with its line feed, or to the end of the text.
+
+ghost use Rattle.std.specs.Prelude.{◌≡◌, ◌<◌, ◌==◌, not, true, take, length, slice_index};
+ghost use Rattle.cnf_form.specs.Forms.{begins_with};
+ghost use Rattle.cnf_form.specs.Passing.{HasNoFeed, CutsLine};
+
+/// The first line of a text, and what stands behind it.
+pub(crate) fn first_line(text: &[u8]) -> (&[u8], &[u8])
+    requires { 0 < length text.now }
+    ensures { CutsLine text.now result.0.now result.1.now }
+{
+    for (i, byte) in text.iter().enumerate() {
+        if *byte == b'\n' {
+            return text.split_at(i + 1);
+        }
+    }
+    text.split_at(text.len())
+}
+
+/// Whether a line begins with `c`, which marks a comment.
+pub(crate) fn is_comment(line: &[u8]) -> bool
+    ensures { result ≡ begins_with 99 line.now }
+{
+    match line {
+        [first, ..] => *first == b'c',
+        [] => false,
+    }
+}
