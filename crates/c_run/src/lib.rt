@@ -1,0 +1,6 @@
+//! Runs of a program, and the texts of its inputs.
+#![tactic(auto)]
+
+mod expressions;
+mod operators;
+mod values;
