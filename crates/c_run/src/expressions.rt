@@ -4,30 +4,10 @@ ghost use Rattle.std.specs.Prelude.{◌≡◌, option_copied};
 ghost use Rattle.c_tree.specs.Stores as stores;
 ghost use Rattle.c_tree.specs.Expressions as spec;
 
+use crate::memory::{Memory, slot_ty};
 use crate::operators::{binary, unary};
-use crate::values::{common, convert, is_true, of_word, truth, ty_of};
-use c_tree::{BinOp, Expr, Slot, Store, Ty, UnOp, Value, Var};
-
-/// What the store has for a variable.
-pub(crate) fn slot(store: &Store, var: Var) -> Option<&Slot>
-    ensures { option_copied result ≡ stores.slot store.now var }
-{
-    match var {
-        Var::Local(n) => store.locals.get(n as usize),
-        Var::Global(n) => store.globals.get(n as usize),
-    }
-}
-
-pub(crate) fn slot_ty(slot: Option<&Slot>) -> Ty
-    ensures { result ≡ stores.slot_ty (option_copied slot.entry) }
-{
-    match slot {
-        None => Ty::Int,
-        Some(Slot::Unset(ty)) => *ty,
-        Some(Slot::Number(v)) => ty_of(*v),
-        Some(Slot::Numbers(ty, _)) => *ty,
-    }
-}
+use crate::values::{common, convert, is_true, of_word, truth};
+use c_tree::{BinOp, Expr, Slot, Ty, UnOp, Value};
 
 /// The number of a scalar.
 pub(crate) fn number_in(slot: Option<&Slot>) -> Option<Value>
@@ -59,13 +39,13 @@ pub(crate) fn number_at(slot: Option<&Slot>, at: u32) -> Option<Value>
 }
 
 #[tactic(auto, using(c_tree::proofs::ValLayers::val_layers))]
-fn type_of(e: &Expr, s: &Store) -> Ty
+fn type_of(e: &Expr, s: &Memory) -> Ty
     ensures { result ≡ spec.type_of e.now s.now }
 {
     match e {
         Expr::Num(ty, _) => *ty,
-        Expr::Name(v) => slot_ty(slot(s, *v)),
-        Expr::Elem(v, _) => slot_ty(slot(s, *v)),
+        Expr::Name(v) => slot_ty(s.slot(*v)),
+        Expr::Elem(v, _) => slot_ty(s.slot(*v)),
         Expr::Un(op, a) => match op {
             UnOp::Not => Ty::Int,
             _ => type_of(a.get(), s),
@@ -89,15 +69,15 @@ fn type_of(e: &Expr, s: &Store) -> Ty
 
 /// The value of an expression, or None where it is undefined.
 #[tactic(auto, using(c_tree::proofs::ValLayers::val_layers))]
-pub(crate) fn value(e: &Expr, s: &Store) -> Option<Value>
+pub(crate) fn value(e: &Expr, s: &Memory) -> Option<Value>
     ensures { result ≡ spec.val e.now s.now }
 {
     match e {
         Expr::Num(ty, n) => Some(of_word(*ty, *n)),
-        Expr::Name(v) => number_in(slot(s, *v)),
+        Expr::Name(v) => number_in(s.slot(*v)),
         Expr::Elem(v, i) => {
             let at = index(value(i.get(), s)?)?;
-            number_at(slot(s, *v), at)
+            number_at(s.slot(*v), at)
         }
         Expr::Un(op, a) => unary(*op, value(a.get(), s)?),
         Expr::Cast(ty, a) => Some(convert(*ty, value(a.get(), s)?)),

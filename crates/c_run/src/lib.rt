@@ -2,5 +2,6 @@
 #![tactic(auto)]
 
 mod expressions;
+mod memory;
 mod operators;
 mod values;
