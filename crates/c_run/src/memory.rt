@@ -7,6 +7,7 @@ ghost use Rattle.c_run.specs.Changed.{changed, changed_list, with_element};
 
 use crate::values::{convert, ty_of};
 use c_tree::{Slot, Ty, Value, Var};
+use sqlite_items::Items;
 use std::marker::Model;
 use std::mem;
 
@@ -83,6 +84,13 @@ impl Memory {
     {
         let ty = slot_ty(self.slot(var));
         self.put(var, Slot::Number(convert(ty, v)));
+    }
+
+    /// Gives a local array its numbers.
+    pub(crate) fn put_array(&mut self, local: u32, ty: Ty, numbers: Items<Value>)
+        ensures { self.new ≡ spec.with_slot self.old (Var.Local local) (Slot.Numbers ty numbers) }
+    {
+        self.put(Var::Local(local), Slot::Numbers(ty, numbers));
     }
 
     /// Assigns to an element, converting to its type; tells whether that is defined.
