@@ -1,1 +1,4 @@
 pub mod Declared
+pub mod Remains
+pub mod WorkLayers
+pub mod Steps

@@ -1,16 +1,22 @@
 -- What is left of a run: what the task at work and the statements that wait for it come to.
-use Rattle.std.specs.Prelude.{ℕ, ◌+◌, ◌%◌, ◌^◌, false, if◌then◌else◌, List, [], ◌∷◌, take, Option, Some, None}
+use Rattle.std.specs.Prelude.{◌≡◌, ℕ, zero, suc, ◌+◌, ◌%◌, ◌^◌, Bool, true, false, if◌then◌else◌, List, [], ◌∷◌, ◌++◌, take, Option, Some, None}
 use Rattle.std.specs.Option.{option_copied}
 use Rattle.c_tree.specs.declared.tree.Stmt.{Stmt}
 use Rattle.c_tree.specs.declared.program.Func.{Func}
 use Rattle.c_tree.specs.declared.program.Costs.{Costs}
 use Rattle.c_tree.specs.declared.value.Store.{Store}
+use Rattle.c_tree.specs.declared.value.Way.{Way}
 use Rattle.c_tree.specs.declared.value.Way.TheVariants as way
-use Rattle.c_tree.specs.Values.{is_true}
+use Rattle.c_tree.specs.declared.value.Value.{Value}
+use Rattle.c_tree.specs.declared.value.Slot.{Slot}
+use Rattle.c_tree.specs.declared.value.Slot.TheVariants.{Number}
+use Rattle.c_tree.specs.declared.tree.Ty.{Ty}
+use Rattle.c_tree.specs.declared.program.Local.{Local}
+use Rattle.c_tree.specs.Values.{convert, is_true}
 use Rattle.c_tree.specs.Expressions.{val}
 use Rattle.c_tree.specs.Blocks.{list_blocks}
 use Rattle.c_tree.specs.Statements.{Callee, Outcome, Ends, Undefined, OverBound, with_value, after, then_do, turn_do, block, while_turns, do_turns, come_back, exec, list_exec, held}
-use Rattle.c_tree.specs.Runs.{back, callees, Run, Ended, IsUndefined, IsOverBound}
+use Rattle.c_tree.specs.Runs.{fresh, result_of, back, callees}
 use Rattle.c_tree.specs.Claims.{cost}
 use Rattle.c_run.specs.declared.run_end.RunEnd.{RunEnd}
 use Rattle.c_run.specs.declared.run_end.RunEnd.TheVariants as end
@@ -45,11 +51,24 @@ over fs f = callees [] (take f fs)
 abbrev pub step_of : Loop → List Stmt
 step_of l = held (option_copied l.step)
 
-unfoldable pub turns : List Callee → ℕ → Loop → Store → Outcome
-turns cs f l = while_turns l.left (block f l.at) l.condition.now (list_exec cs f l.body.now l.body_at false) (list_exec cs f (step_of l) (l.at + 1) false)
+-- from the condition on, where the body may be entered n more times
+unfoldable pub turns_of : List Callee → ℕ → Loop → ℕ → Store → Outcome
+turns_of cs f l n = while_turns n (block f l.at) l.condition.now (list_exec cs f l.body.now l.body_at false) (list_exec cs f (step_of l) (l.at + 1) false)
 
-unfoldable pub again : List Callee → ℕ → DoLoop → Store → Outcome
-again cs f l = do_turns l.left (block f l.at) l.condition.now (list_exec cs f l.body.now l.body_at false)
+abbrev pub turns : List Callee → ℕ → Loop → Store → Outcome
+turns cs f l = turns_of cs f l l.left
+
+-- from the body on
+unfoldable pub entering : List Callee → ℕ → Loop → ℕ → Store → Outcome
+entering cs f l zero s = OverBound
+entering cs f l (suc n) s =
+    turn_do (list_exec cs f l.body.now l.body_at false s) (λ s'. then_do (list_exec cs f (step_of l) (l.at + 1) false s') (turns_of cs f l n))
+
+unfoldable pub again_of : List Callee → ℕ → DoLoop → ℕ → Store → Outcome
+again_of cs f l n = do_turns n (block f l.at) l.condition.now (list_exec cs f l.body.now l.body_at false)
+
+abbrev pub again : List Callee → ℕ → DoLoop → Store → Outcome
+again cs f l = again_of cs f l l.left
 
 -- what a task comes to in the function f
 unfoldable pub doing : List Func → ℕ → Task → Store → Outcome
@@ -78,6 +97,38 @@ behind fs (pending.DoTest f l) o = turn_do o (do_test (over fs f) f l)
 behind fs (pending.Caller f target locals result) o =
     come_back target (record { locals = locals.items; globals = [] }) (back result o)
 
+-- whether the body of a loop that ended so is followed by another turn, and how the loop ends where it is not
+abbrev pub goes_on : Way → Bool
+goes_on way.Next = true
+goes_on way.Continue = true
+goes_on way.Break = false
+goes_on (way.Return v) = false
+
+abbrev pub past : Way → Way
+past way.Break = way.Next
+past way.Next = way.Next
+past way.Continue = way.Continue
+past (way.Return v) = way.Return v
+
+-- a task that waits for what ended so
+abbrev pub onward : Way → Task → Task
+onward way.Next t = t
+onward way.Break t = task.Ended way.Break
+onward way.Continue t = task.Ended way.Continue
+onward (way.Return v) t = task.Ended (way.Return v)
+
+-- what a function of this result comes back with
+abbrev pub returned : Option Ty → Way → Option Value
+returned r (way.Return v) = result_of r v
+returned r way.Next = None
+returned r way.Break = None
+returned r way.Continue = None
+
+-- the slot of a local as a call begins
+abbrev pub entry_slot : Local → Option Value → Slot
+entry_slot l None = fresh l.ty l.length
+entry_slot l (Some v) = Number (convert l.ty v)
+
 -- the last waits for what is done, and each other for the one behind it
 unfoldable pub finished : List Func → List Pending → Outcome → Outcome
 finished fs [] o = o
@@ -91,6 +142,27 @@ state t fs c ps o = dearer c (costed t (finished fs ps o))
 
 abbrev pub ends_as : Given → Machine → Outcome → RunEnd
 ends_as g m o = state g.costs.now g.program.now.funcs m.cost m.pending.items o
+
+-- the functions above the one at work
+abbrev pub functions : Given → Machine → List Callee
+functions g m = over g.program.now.funcs m.func
+
+-- one more waits, and all else is the same
+pub record Waits (before after : Machine) (p : Pending) : Type 0 where
+  pub func : after.func ≡ before.func
+  pub memory : after.memory ≡ before.memory
+  pub cost : after.cost ≡ before.cost
+  pub pending : after.pending.items ≡ before.pending.items ++ p ∷ []
+
+-- no end
+abbrev pub is_work : Task → Bool
+is_work (task.List xs n run) = true
+is_work (task.One st n run) = true
+is_work (task.Turn l) = true
+is_work (task.Again l) = true
+is_work (task.Ended w) = false
+is_work task.Undefined = false
+is_work task.OverBound = false
 
 -- with a task at work
 abbrev pub remains : Given → Machine → Task → RunEnd

@@ -2,12 +2,15 @@
 #![tactic(auto)]
 
 mod blocks;
+mod calls;
 mod expressions;
+mod loops;
 mod machine;
 mod memory;
 mod operators;
 mod run_end;
 mod simple;
+mod statements;
 mod values;
 
 pub use run_end::RunEnd;

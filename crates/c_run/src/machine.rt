@@ -1,18 +1,20 @@
 //! Runs of statements (C11 6.8). What is left to do of the statements around the one at work stands in a list on the
 //! heap, so a run needs no more stack where calls and statements lie deeper in one another.
 
-ghost use Rattle.std.specs.Prelude.{◌≡◌, ◌<◌, ◌+◌, ◌%◌, ◌^◌, [], ◌∷◌, ◌++◌, option_map, IfOk, OnOk};
+ghost use Rattle.std.specs.Prelude.{◌≡◌, ◌<◌, ◌+◌, ◌%◌, ◌^◌, true, option_map, IfOk, OnOk};
 ghost use Rattle.c_tree.specs.Values.{is_true};
 ghost use Rattle.c_tree.specs.Expressions.{val};
 ghost use Rattle.c_tree.specs.Statements.{block};
 ghost use Rattle.c_tree.specs.Claims.{block_cost};
-ghost use Rattle.c_run.specs.Machine.{remains};
+ghost use Rattle.c_run.specs.Machine.{Waits, is_work, remains};
+ghost use Rattle.c_run.specs.Work.{left};
 
-use c_tree::{Costs, Expr, NoMemory, Program, Slot, Stmt, Target, Ty, Way};
-use std::alloc::Global;
 use crate::expressions::value;
 use crate::memory::Memory;
+use crate::run_end::RunEnd;
 use crate::values::is_true;
+use c_tree::{Costs, Expr, NoMemory, Program, Slot, Stmt, Target, Ty, Way};
+use std::alloc::Global;
 
 /// What a run is made of, and where it takes memory from.
 #[derive(Clone, Copy)]
@@ -49,9 +51,17 @@ pub(crate) struct DoLoop<'a> {
 #[derive(Clone, Copy)]
 pub(crate) enum Task<'a> {
     /// The statements of a list, of which the first block is `at`, unless `run` tells that a run of simple ones goes on.
-    List { stmts: &'a [Stmt], at: usize, run: bool },
+    List {
+        stmts: &'a [Stmt],
+        at: usize,
+        run: bool,
+    },
     /// One statement.
-    One { stmt: &'a Stmt, at: usize, run: bool },
+    One {
+        stmt: &'a Stmt,
+        at: usize,
+        run: bool,
+    },
     /// A `while` or a `for` from its condition on.
     Turn(Loop<'a>),
     /// A `do` from its body on.
@@ -68,15 +78,34 @@ pub(crate) enum Task<'a> {
 #[derive(Drop)]
 pub(crate) enum Pending<'a> {
     /// The rest of a list.
-    Rest { func: u32, stmts: &'a [Stmt], at: usize, run: bool },
+    Rest {
+        func: u32,
+        stmts: &'a [Stmt],
+        at: usize,
+        run: bool,
+    },
     /// The condition of a loop, behind its initialiser or its step.
-    Turn { func: u32, turns: Loop<'a> },
+    Turn {
+        func: u32,
+        turns: Loop<'a>,
+    },
     /// What follows the body of a `while` or a `for`.
-    Step { func: u32, turns: Loop<'a> },
+    Step {
+        func: u32,
+        turns: Loop<'a>,
+    },
     /// The condition of a `do`.
-    DoTest { func: u32, turns: DoLoop<'a> },
+    DoTest {
+        func: u32,
+        turns: DoLoop<'a>,
+    },
     /// The caller: where the result goes, the caller's locals, and the result's type.
-    Caller { func: u32, target: Target, locals: Vec<Slot>, result: Option<Ty> },
+    Caller {
+        func: u32,
+        target: Target,
+        locals: Vec<Slot>,
+        result: Option<Ty>,
+    },
 }
 
 /// The function at work by its number, the store, what waits (the innermost last), and the cost so far, modulo 2^128.
@@ -89,7 +118,7 @@ pub(crate) struct Machine<'a> {
 }
 
 /// The cost with that of a block added.
-fn with_block(cost: u128, costs: &Costs, func: u32, at: usize) -> u128
+pub(crate) fn with_block(cost: u128, costs: &Costs, func: u32, at: usize) -> u128
     ensures { result ≡ (cost + block_cost costs.now (block func at)) % 2 ^ 128 }
 {
     let more = match costs.by_func.get(func as usize) {
@@ -100,7 +129,7 @@ fn with_block(cost: u128, costs: &Costs, func: u32, at: usize) -> u128
 }
 
 /// Whether a condition holds, or None where it is undefined.
-fn condition(e: &Expr, memory: &Memory) -> Option<bool>
+pub(crate) fn condition(e: &Expr, memory: &Memory) -> Option<bool>
     ensures { result ≡ option_map is_true (val e.now memory.now) }
 {
     Some(is_true(value(e, memory)?))
@@ -108,11 +137,8 @@ fn condition(e: &Expr, memory: &Memory) -> Option<bool>
 
 impl<'a> Machine<'a> {
     /// Has the statement at work wait.
-    fn wait(&mut self, pending: Pending<'a>) -> Result<(), NoMemory>
-        ensures func { self.new.func ≡ self.old.func }
-        ensures memory { self.new.memory ≡ self.old.memory }
-        ensures cost { self.new.cost ≡ self.old.cost }
-        ensures pending { OnOk result (self.new.pending.items ≡ self.old.pending.items ++ pending.entry ∷ []) }
+    pub(crate) fn wait(&mut self, pending: Pending<'a>) -> Result<(), NoMemory>
+        ensures { OnOk result (Waits self.old self.new pending.entry) }
     {
         match self.pending.push(pending) {
             Ok(()) => Ok(()),
@@ -120,33 +146,38 @@ impl<'a> Machine<'a> {
         }
     }
 
-    /// A `while` or a `for` from its condition on.
-    fn turn(&mut self, given: Given<'a>, turns: Loop<'a>) -> Result<Task<'a>, NoMemory>
-        ensures same { IfOk result (λ t. remains given.entry self.new t ≡ remains given.entry self.old (Task.Turn turns.entry)) }
+    /// The task that comes next where this one is no end.
+    fn work(&mut self, given: Given<'a>, task: Task<'a>) -> Result<Task<'a>, NoMemory>
+        requires { is_work task ≡ true }
+        ensures same { IfOk result (λ t. remains given.entry self.new t ≡ remains given.entry self.old task.entry) }
+        ensures less { IfOk result (λ t. left given.entry self.new t < left given.entry self.old task.entry) }
     {
-        self.cost = with_block(self.cost, given.costs, self.func, turns.at);
-        match condition(turns.condition, &self.memory) {
-            None => Ok(Task::Undefined),
-            Some(false) => Ok(Task::Ended(Way::Next)),
-            Some(true) => self.enter_body(turns),
+        match task {
+            Task::List { stmts, at, run } => self.list(stmts, at, run),
+            Task::One { stmt, at, run } => self.one(given, stmt, at, run),
+            Task::Turn(turns) => self.turn(given, turns),
+            Task::Again(turns) => self.again(turns),
+            Task::Ended(_) => Err(NoMemory),
+            Task::Undefined => Err(NoMemory),
+            Task::OverBound => Err(NoMemory),
         }
     }
 
-    /// Enters the body of a loop once more, if its bound allows it.
-    fn enter_body(&mut self, turns: Loop<'a>) -> Result<Task<'a>, NoMemory>
+    /// Does a task, and all that waits for it.
+    pub(crate) fn finish(&mut self, given: Given<'a>, first: Task<'a>) -> Result<RunEnd, NoMemory>
+        ensures { IfOk result (λ e. e ≡ remains given.entry self.old first.entry) }
     {
-        if turns.left == 0 {
-            return Ok(Task::OverBound);
+        let mut task = first;
+        loop {
+            match task {
+                Task::Undefined => return Ok(RunEnd::Undefined),
+                Task::OverBound => return Ok(RunEnd::OverBound),
+                Task::Ended(way) => match self.pending.pop() {
+                    None => return Ok(RunEnd::Ends { cost: self.cost }),
+                    Some(pending) => task = self.resume(given, pending, way)?,
+                },
+                _ => task = self.work(given, task)?,
+            }
         }
-        let left = turns.left - 1;
-        self.wait(Pending::Step {
-            func: self.func,
-            turns: Loop { left, ..turns },
-        })?;
-        Ok(Task::List {
-            stmts: turns.body,
-            at: turns.body_at,
-            run: false,
-        })
     }
 }

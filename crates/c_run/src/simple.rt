@@ -120,11 +120,17 @@ fn converted(alloc: Global, ty: Ty, from: &[Value]) -> Result<Items<Value>, NoMe
 }
 
 /// The numbers of an array of this length: the values converted, and 0 after them.
-fn padded(alloc: Global, ty: Ty, length: usize, values: &[Value]) -> Result<Items<Value>, NoMemory>
+pub(crate) fn padded(
+    alloc: Global,
+    ty: Ty,
+    length: usize,
+    values: &[Value],
+) -> Result<Items<Value>, NoMemory>
     ensures { IfOk result (λ vs. vs ≡ stores.padded ty length values.now) }
 {
     let mut list = converted(alloc, ty, values)?;
-    for _at in values.len()..length {
+    let missing = length.saturating_sub(values.len());
+    for _at in 0..missing {
         list.push(zero_of(ty))?;
     }
     Ok(list)
