@@ -2,3 +2,4 @@ pub mod Declared
 pub mod Remains
 pub mod WorkLayers
 pub mod Steps
+pub mod Above

@@ -1,6 +1,8 @@
 -- One step of the machine: a block is entered, or one more waits.
-use Rattle.std.proofs.Common.{◌≡◌, ℕ, zero, suc, ◌+◌, ◌*◌, ◌%◌, ◌^◌, ◌<◌, Bool, true, false, if◌then◌else◌, List, [], ◌∷◌, ◌++◌, length, Option, Some, None, refl, sym, ap, ◌∙◌, arith, append-nil}
+use Rattle.std.proofs.Common.{◌≡◌, ℕ, zero, suc, ◌+◌, ◌*◌, ◌%◌, ◌^◌, ◌<◌, ◌≤◌, Bool, true, false, if◌then◌else◌, List, [], ◌∷◌, ◌++◌, length, Option, Some, None, refl, sym, ap, ◌∙◌, arith, append-nil}
 use Rattle.c_tree.specs.declared.tree.Ty.{Ty}
+use Rattle.std.specs.Prelude.{option_copied}
+use Rattle.c_tree.specs.declared.tree.Expr.{Expr}
 use Rattle.c_tree.specs.declared.tree.Stmt.{Stmt}
 use Rattle.c_tree.specs.declared.tree.Target.{Target}
 use Rattle.c_tree.specs.declared.tree.Stmt.TheVariants.{Empty, Scalar, Array, Assign, Call, Break, Continue, Return, If', While', Do', For', Group'}
@@ -11,8 +13,8 @@ use Rattle.c_tree.specs.declared.value.Value.{Value}
 use Rattle.c_tree.specs.declared.value.Store.{Store}
 use Rattle.c_tree.specs.declared.value.Way.{Way}
 use Rattle.c_tree.specs.declared.value.Way.TheVariants as way
-use Rattle.c_tree.specs.Blocks.{blocks, is_simple}
-use Rattle.c_tree.specs.Statements.{Callee, Back, Gives, Lost, Outcome, Ends, Undefined, OverBound, after, then_do, turn_do, block, entered, stored, simple, come_back, list_exec, exec, held}
+use Rattle.c_tree.specs.Blocks.{blocks, list_blocks, is_simple}
+use Rattle.c_tree.specs.Statements.{Callee, Back, Gives, Lost, Outcome, Ends, Undefined, OverBound, after, then_do, turn_do, block, while_turns, entered, stored, simple, come_back, list_exec, exec, held}
 use Rattle.c_tree.specs.Runs.{back}
 use Rattle.c_tree.specs.Claims.{block_cost}
 use Rattle.c_run.specs.declared.machine.Loop.{Loop}
@@ -22,8 +24,8 @@ use Rattle.c_run.specs.declared.machine.Task.TheVariants as task
 use Rattle.c_run.specs.declared.machine.Pending.{Pending}
 use Rattle.c_run.specs.declared.machine.Machine.{Machine}
 use Rattle.c_run.specs.declared.machine.Given.{Given}
-use Rattle.c_run.specs.Machine.{Waits, over, doing, behind, goes_on, past, onward, returned, state, ends_as, remains}
-use Rattle.c_run.specs.Work.{list_work, while_work, do_work, task_work, pending_work, waiting_work, waiting, left}
+use Rattle.c_run.specs.Machine.{Waits, over, turns_of, turns, doing, behind, goes_on, past, onward, returned, state, ends_as, remains}
+use Rattle.c_run.specs.Work.{list_work, while_work, do_work, turn_work, task_work, pending_work, waiting_work, waiting, left}
 use Rattle.c_run.proofs.Remains.{state_entered, state_pushed}
 
 -- ---- a block is entered
@@ -142,3 +144,21 @@ exec_plain cs f (While' k e a x) n run s h = absurd cc
 exec_plain cs f (Do' k a x e) n run s h = absurd cc
 exec_plain cs f (For' k i e j a x) n run s h = absurd cc
 exec_plain cs f (Group' a x) n run s h = absurd cc
+
+pub onward_work : (fs : List Func) (f : ℕ) (w : Way) (t : Task) → task_work fs f (onward w t) ≤ task_work fs f t
+unfolding task_work
+onward_work fs f way.Next t = omega arith
+onward_work fs f way.Break t = omega arith
+onward_work fs f way.Continue t = omega arith
+onward_work fs f (way.Return v) t = omega arith
+
+-- ---- a `for`
+
+pub for_turns : (cs : List Callee) (f : ℕ) (l : Loop) (k n : ℕ) (e : Expr) (xs : List Stmt) (j : Option Stmt) → l.left ≡ k → l.condition.now ≡ e → l.body.now ≡ xs → l.at ≡ n → l.body_at ≡ n + 1 + list_blocks (held j) false → option_copied l.step ≡ j → turns cs f l ≡ while_turns k (block f n) e (list_exec cs f xs (n + 1 + list_blocks (held j) false) false) (list_exec cs f (held j) (n + 1) false)
+unfolding turns_of
+for_turns cs f l k n e xs j left condition body at body_at step =
+    λ i. while_turns (left i) (block f (at i)) (condition i) (list_exec cs f (body i) (body_at i) false) (list_exec cs f (held (step i)) (at i + 1) false)
+
+pub for_work : (ws : List ℕ) (l : Loop) (k : ℕ) (xs : List Stmt) (j : Option Stmt) → l.left ≡ k → l.body.now ≡ xs → option_copied l.step ≡ j → turn_work ws l l.left ≡ while_work k (list_work ws xs) (list_work ws (held j))
+unfolding turn_work
+for_work ws l k xs j left body step = λ i. while_work (left i) (list_work ws (body i)) (list_work ws (held (step i)))

@@ -23,7 +23,7 @@ use Rattle.c_run.proofs.WorkLayers.{work-Empty, work-Scalar, work-Array, work-As
 use Rattle.c_run.proofs.machine.Machine.begin.Goals as goal
 
 pub returns-in-None-clause-same : goal.returns-in-None-clause-same
-unfolding doing behind
+unfolding doing
 returns-in-None-clause-same c =
     λ g. let m = c.args.self.now in let l = c.args.ahead in ap (ends_as g m) (sym (after_nothing (turns (functions g m) m.func l m.memory)) ∙ ap (λ o. then_do (list_exec (functions g m) m.func (held o) c.args.at false m.memory) (turns (functions g m) m.func l)) (sym c.in-None.is))
 
@@ -35,9 +35,9 @@ returns-in-None-clause-less c =
 pub returns-in_ok-wait-in-Some-clause-same : goal.returns-in_ok-wait-in-Some-clause-same
 unfolding doing behind
 returns-in_ok-wait-in-Some-clause-same c =
-    λ g. ?
+    λ g. let m = c.args.self.now in let l = c.args.ahead in let go = turns (functions g m) m.func l in let p = pending.Turn m.func l in pushed g m c.wait.new.self p (task.One c.get.result c.args.at false) c.in_ok-wait-in-Some.ensures ∙ ap (λ st. ends_as g m (then_do (exec (functions g m) m.func st c.args.at false m.memory) go)) c.get.ensures ∙ ap (λ o. ends_as g m (then_do o go)) (sym (then_nothing (exec (functions g m) m.func c.in-Some.stmt c.args.at false m.memory))) ∙ ap (λ o. ends_as g m (then_do (list_exec (functions g m) m.func (held o) c.args.at false m.memory) go)) (sym c.in-Some.is)
 
 pub returns-in_ok-wait-in-Some-clause-less : goal.returns-in_ok-wait-in-Some-clause-less
 unfolding task_work pending_work
 returns-in_ok-wait-in-Some-clause-less c =
-    λ g. ?
+    λ g. let m = c.args.self.now in let l = c.args.ahead in let p = pending.Turn m.func l in let more = pushed_left g m c.wait.new.self p (task.One c.get.result c.args.at false) c.in_ok-wait-in-Some.ensures in let st = ap (work (efforts g m)) c.get.ensures in let is = ap (λ o. list_work (efforts g m) (held o)) c.in-Some.is in omega (arith, more, st, is)

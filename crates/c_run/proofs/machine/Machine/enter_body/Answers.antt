@@ -33,7 +33,7 @@ returns-then-turns-eq0-clause-less c =
     λ g. let m = c.args.self.now in omega arith
 
 pub returns-clause-same : goal.returns-clause-same
-unfolding doing behind entering
+unfolding doing behind entering turns_of
 returns-clause-same c =
     λ g. let m = c.args.self.now in let l = c.args.turns in let n = l.left - 1 in let more : suc n ≡ l.left = omega (arith, c.if-turns-eq0.false) in let p = pending.Step m.func (record l { left = n }) in pushed g m c.wait.new.self p (task.List l.body l.body_at false) c.in_ok-wait.ensures ∙ ap (λ n. ends_as g m (entering (functions g m) m.func l n m.memory)) more
 

@@ -20,12 +20,14 @@ use Rattle.c_run.specs.Work.{work, list_work, work_at, works_over, while_work, d
 use Rattle.c_run.proofs.Remains.{turns_test, tested_none, tested_some}
 use Rattle.c_run.proofs.Steps.{entered_as, pushed_as, pushed, pushed_waiting, pushed_left, while_less, do_less, after_nothing, then_onward, turn_on, turn_past, then_nothing, come_back_is, come_from}
 use Rattle.c_run.proofs.WorkLayers.{work-Empty, work-Scalar, work-Array, work-Assign, work-Call, work-Break, work-Continue, work-Return, work-If, work-While, work-Do, work-For, work-Group}
+use Rattle.c_run.specs.Changed.{changed}
+use Rattle.c_run.proofs.Steps.{run_entered}
 use Rattle.c_run.proofs.machine.Machine.plain.Goals as goal
 
 pub returns-then-branch-clause-same : goal.returns-then-branch-clause-same
 unfolding doing
 returns-then-branch-clause-same c =
-    ?
+    let g = c.args.given in let m = c.args.self.now in let st = c.args.stmt.now in let is = ap (λ d. changed d c.simple.new.memory) (sym c.if-branch.true) ∙ c.in_ok-simple.ensures in run_entered g m c.with_run-self.result c.args.at c.args.run (Ends [] c.simple.new.memory way.Next) c.with_run-self.ensures.on c.with_run-self.ensures.begun ∙ ap (λ o. ends_as g m (after (entered m.func c.args.at c.args.run) (stored o))) is
 
 pub returns-then-branch-clause-less : goal.returns-then-branch-clause-less
 unfolding task_work
@@ -35,7 +37,7 @@ returns-then-branch-clause-less c =
 pub returns-else-branch-clause-same : goal.returns-else-branch-clause-same
 unfolding doing
 returns-else-branch-clause-same c =
-    ?
+    let g = c.args.given in let m = c.args.self.now in let st = c.args.stmt.now in let is = ap (λ d. changed d c.simple.new.memory) (sym c.if-branch.false) ∙ c.in_ok-simple.ensures in run_entered g m c.with_run-self.result c.args.at c.args.run Undefined c.with_run-self.ensures.on c.with_run-self.ensures.begun ∙ ap (λ o. ends_as g m (after (entered m.func c.args.at c.args.run) (stored o))) is
 
 pub returns-else-branch-clause-less : goal.returns-else-branch-clause-less
 unfolding task_work
