@@ -57,7 +57,7 @@ pushed g m m' p t w =
     let fs = g.program.now.funcs in
     ap (λ f. ends_as g m' (doing fs f t m'.memory)) w.func ∙ ap (λ s. ends_as g m' (doing fs m.func t s)) w.memory ∙ pushed_as g m m' p (doing fs m.func t m.memory) w
 
-waiting_more : (fs : List Func) (ps : List Pending) (p : Pending) → waiting_work fs (ps ++ p ∷ []) ≡ waiting_work fs ps + pending_work fs p
+pub waiting_more : (fs : List Func) (ps : List Pending) (p : Pending) → waiting_work fs (ps ++ p ∷ []) ≡ waiting_work fs ps + pending_work fs p
 unfolding waiting_work
 waiting_more fs [] p = omega arith
 waiting_more fs (q ∷ ps) p = omega (arith, waiting_more fs ps p)

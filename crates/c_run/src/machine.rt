@@ -146,6 +146,13 @@ impl<'a> Machine<'a> {
         }
     }
 
+    /// The cost so far.
+    fn total(&self) -> u128
+        ensures { result ≡ self.now.cost }
+    {
+        self.cost
+    }
+
     /// The task that comes next where this one is no end.
     fn work(&mut self, given: Given<'a>, task: Task<'a>) -> Result<Task<'a>, NoMemory>
         requires { is_work task ≡ true }
@@ -173,7 +180,7 @@ impl<'a> Machine<'a> {
                 Task::Undefined => return Ok(RunEnd::Undefined),
                 Task::OverBound => return Ok(RunEnd::OverBound),
                 Task::Ended(way) => match self.pending.pop() {
-                    None => return Ok(RunEnd::Ends { cost: self.cost }),
+                    None => return Ok(RunEnd::Ends { cost: self.total() }),
                     Some(pending) => task = self.resume(given, pending, way)?,
                 },
                 _ => task = self.work(given, task)?,
