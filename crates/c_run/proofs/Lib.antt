@@ -3,3 +3,4 @@ pub mod Remains
 pub mod WorkLayers
 pub mod Steps
 pub mod Above
+pub mod TraceLength

@@ -9,6 +9,7 @@ mod machine;
 mod memory;
 mod operators;
 mod run_end;
+mod run;
 mod simple;
 mod statements;
 mod values;
