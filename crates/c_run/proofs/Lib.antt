@@ -4,3 +4,5 @@ pub mod WorkLayers
 pub mod Steps
 pub mod Above
 pub mod TraceLength
+pub mod Fitting
+pub mod Exact
