@@ -4,5 +4,6 @@ pub mod WorkLayers
 pub mod Steps
 pub mod Above
 pub mod TraceLength
-pub mod Fitting
+pub mod InputParts
 pub mod Exact
+pub mod CostRows

@@ -115,7 +115,7 @@ fn next_slot<'a>(
 }
 
 /// How many input numbers an `extern` variable of this length has.
-fn width(length: Option<u32>) -> usize
+pub(crate) fn width(length: Option<u32>) -> usize
     ensures { result ≡ unwrap_or length 1 }
 {
     match length {

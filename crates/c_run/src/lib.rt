@@ -4,18 +4,20 @@
 mod blocks;
 mod calls;
 mod expressions;
+mod fitting;
 mod inputs;
 mod loops;
 mod machine;
 mod memory;
 mod operators;
-mod run;
 mod run_end;
+mod runs;
 mod simple;
 mod statements;
 #[cfg(test)]
 mod tests;
 mod values;
 
-pub use run::run;
+pub use fitting::fits;
 pub use run_end::RunEnd;
+pub use runs::run;

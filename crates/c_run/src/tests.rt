@@ -2,8 +2,8 @@
 //! its text, with the bounds of its loops in brackets; each block costs 1.
 
 use crate::machine::Given;
-use crate::run::run_entry;
 use crate::run_end::RunEnd;
+use crate::runs::run_entry;
 use c_tree::{
     BinOp, Costs, Expr, Func, Local, Name, NoMemory, Place, Program, Slot, Stmt, Target, Ty, UnOp,
     Value, Var,

@@ -7,7 +7,7 @@ use Rattle.c_tree.specs.declared.value.Slot.{Slot}
 use Rattle.c_tree.specs.Values.{is_of}
 use Rattle.c_tree.specs.Runs.{are_of, types_of, outer_types, global_slot, global_slots}
 use Rattle.c_tree.specs.WellFormed.{AreNumbersOf}
-use Rattle.c_run.specs.Starts.{NumberAt, width, Takes, own_width, own_slot}
+use Rattle.c_run.specs.Starts.{NumberAt, width, Takes, own_width, own_slot, rest_of, own_types}
 
 both : (a b : Bool) → IsTrue (a && b) → IsTrue a × IsTrue b
 both true true h = (refl, refl)
@@ -77,3 +77,19 @@ first_slot g gs zs =
     by_outer : (b : Bool) → (if b then global_slot g.ty g.length (take (width g) zs) ∷ global_slots gs (drop (width g) zs) else global_slot g.ty g.length g.values ∷ global_slots gs zs) ≡ global_slot g.ty g.length (if b then take (width g) zs else g.values) ∷ global_slots gs (drop (if b then width g else 0) zs)
     by_outer true = refl
     by_outer false = refl
+
+-- ---- inputs that fit, a part at a time
+
+abbrev pub from_rest : List Ty → Option (List ℤ) → Bool
+from_rest us None = false
+from_rest us (Some zs) = are_of us zs
+
+-- numbers fit types where the first ones fit the first types, and the rest the others
+pub are_of_append : (ts us : List Ty) (zs : List ℤ) → are_of (ts ++ us) zs ≡ from_rest us (rest_of ts zs)
+are_of_append [] us zs = refl
+are_of_append (t ∷ ts) us [] = refl
+are_of_append (t ∷ ts) us (z ∷ zs) = by_first (is_of t z)
+  where
+    by_first : (b : Bool) → (b && are_of (ts ++ us) zs) ≡ from_rest us (if b then rest_of ts zs else None)
+    by_first true = are_of_append ts us zs
+    by_first false = refl
