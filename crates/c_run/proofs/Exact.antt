@@ -1,14 +1,17 @@
 -- The run of a well-formed program has the cost of its trace exactly, since that is less than 2^128.
-use Rattle.std.proofs.Common.{◌≡◌, ◌<◌, ◌≤◌, ℕ, zero, suc, ◌+◌, ◌*◌, ◌%◌, ◌^◌, false, List, [], ◌∷◌, ◌++◌, take, drop, length, Option, Some, None, option_map, refl, subst, sym, ap, ◌∙◌, arith, append_assoc, append-nil}
+use Rattle.std.proofs.Common.{◌≡◌, ◌<◌, ◌≤◌, ℕ, zero, suc, ◌+◌, ◌*◌, ◌%◌, ◌^◌, false, List, [], ◌∷◌, ◌++◌, take, drop, length, Option, Some, None, option_map, refl, subst, sym, ap, ◌∙◌, arith, append_assoc, append-nil, zero-add}
 use Rattle.std.specs.Prelude.{slice_get}
 use Rattle.std.proofs.lemmas.List.Sums.{sum_by-append}
-use Rattle.std.proofs.Math.Nat.{mod-eq_of_lt}
+use Rattle.std.proofs.Math.Nat.{add-mod-mod, mod-eq_of_lt}
 use Rattle.c_tree.specs.declared.tree.Ty.{Ty}
 use Rattle.c_tree.specs.declared.program.BlockName.{BlockName}
 use Rattle.c_tree.specs.declared.program.Func.{Func}
 use Rattle.c_tree.specs.declared.program.Program.{Program}
 use Rattle.c_tree.specs.declared.program.Costs.{Costs}
 use Rattle.c_tree.specs.declared.program.Input.{Input}
+use Rattle.c_tree.specs.declared.tree.Stmt.{Stmt}
+use Rattle.c_tree.specs.declared.value.Value.{Value}
+use Rattle.c_tree.specs.declared.value.Slot.{Slot}
 use Rattle.c_tree.specs.declared.value.Store.{Store}
 use Rattle.c_tree.specs.declared.value.Way.TheVariants as way
 use Rattle.c_tree.specs.Statements.{Callee, Outcome, Ends, Undefined, OverBound, list_exec}
@@ -20,7 +23,9 @@ use Rattle.c_tree.specs.WellFormed.{WellFormedFuncs, WellFormed}
 use Rattle.c_tree.proofs.Callees.{callee_at}
 use Rattle.c_run.specs.declared.run_end.RunEnd.{RunEnd}
 use Rattle.c_run.specs.declared.run_end.RunEnd.TheVariants as end
-use Rattle.c_run.specs.Machine.{costed, over}
+use Rattle.c_run.specs.declared.machine.Machine.{Machine}
+use Rattle.c_run.specs.declared.machine.Given.{Given}
+use Rattle.c_run.specs.Machine.{costed, dearer, over, finished, state, ends_as, entered}
 use Rattle.c_run.specs.Ends.{ended}
 use Rattle.c_run.proofs.TraceLength.{run_within}
 
@@ -92,3 +97,19 @@ pub run_some : (p : Program) (i : Input) (h : Func) → slice_get p.funcs p.entr
 unfolding from_entry
 run_some p i h e =
     ap (from_entry p i (slice_get p.funcs p.entry)) (callee_is p.funcs p.entry) ∙ ap (λ o. from_entry p i o (option_map (λ f. callee p.entry f (over p.funcs p.entry)) o)) e
+
+-- ---- a machine at its beginning
+
+state_begun : (t : Costs) (fs : List Func) (o : Outcome) → state t fs 0 [] o ≡ costed t o
+unfolding costed dearer finished
+state_begun t fs (Ends u s w) = ap end.Ends (add-mod-mod 0 (cost t u) (2 ^ 128) ∙ ap (λ n. n % 2 ^ 128) (zero-add (cost t u)))
+state_begun t fs Undefined = refl
+state_begun t fs OverBound = refl
+
+pub begins : (g : Given) (m : Machine) (h : Func) (vs : List Value) (gs : List Slot) (xs : List Stmt) → m.func ≡ g.program.now.entry → m.memory ≡ record { locals = entry_slots h.locals vs; globals = gs } → m.pending.items ≡ [] → m.cost ≡ 0 → xs ≡ h.body → ends_as g m (list_exec (over g.program.now.funcs m.func) m.func xs 0 false m.memory) ≡ entered g h vs gs
+begins g m h vs gs xs func memory none free body =
+    let t = g.costs.now in
+    let fs = g.program.now.funcs in
+    let e = g.program.now.entry in
+    let s : Store = record { locals = entry_slots h.locals vs; globals = gs } in
+    (λ i. state t fs (free i) (none i) (list_exec (over fs (func i)) (func i) (body i) 0 false (memory i))) ∙ state_begun t fs (list_exec (over fs e) e h.body 0 false s)

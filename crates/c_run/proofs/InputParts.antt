@@ -1,13 +1,15 @@
 -- The numbers of a fitting input, part by part.
-use Rattle.std.proofs.Common.{◌≡◌, ◌≤◌, ◌<◌, ℕ, zero, suc, ◌+◌, Bool, true, false, if◌then◌else◌, List, [], ◌∷◌, ◌++◌, take, drop, length, replicate, Option, Some, None, refl, sym, ap, ◌∙◌, subst, arith}
+use Rattle.std.proofs.Common.{◌≡◌, ◌≤◌, ◌<◌, ℕ, zero, suc, ◌+◌, ◌-◌, map, append_assoc, length-append, Bool, true, false, if◌then◌else◌, List, [], ◌∷◌, ◌++◌, take, drop, length, replicate, Option, Some, None, refl, sym, ap, ◌∙◌, subst, arith}
 use Rattle.std.specs.Prelude.{IsTrue, ◌&&◌, slice_get, unwrap_or, ℤ}
 use Rattle.c_tree.specs.declared.tree.Ty.{Ty}
 use Rattle.c_tree.specs.declared.program.Global.{Global}
+use Rattle.c_tree.specs.declared.program.Local.{Local}
+use Rattle.c_tree.specs.declared.value.Value.{Value}
 use Rattle.c_tree.specs.declared.value.Slot.{Slot}
 use Rattle.c_tree.specs.Values.{is_of}
-use Rattle.c_tree.specs.Runs.{are_of, types_of, outer_types, global_slot, global_slots}
+use Rattle.c_tree.specs.Runs.{are_of, types_of, outer_types, param_types, arguments, global_slot, global_slots}
 use Rattle.c_tree.specs.WellFormed.{AreNumbersOf}
-use Rattle.c_run.specs.Starts.{NumberAt, width, Takes, own_width, own_slot, rest_of, own_types}
+use Rattle.c_run.specs.Starts.{NumberAt, width, Takes, own_width, own_slot}
 
 both : (a b : Bool) → IsTrue (a && b) → IsTrue a × IsTrue b
 both true true h = (refl, refl)
@@ -78,18 +80,46 @@ first_slot g gs zs =
     by_outer true = refl
     by_outer false = refl
 
--- ---- inputs that fit, a part at a time
+-- ---- lists
 
-abbrev pub from_rest : List Ty → Option (List ℤ) → Bool
-from_rest us None = false
-from_rest us (Some zs) = are_of us zs
+some_is : {X : Type 0} → (a b : X) → ◌≡◌ {A = Option X} (Some a) (Some b) → a ≡ b
+some_is a b e = cc
 
--- numbers fit types where the first ones fit the first types, and the rest the others
-pub are_of_append : (ts us : List Ty) (zs : List ℤ) → are_of (ts ++ us) zs ≡ from_rest us (rest_of ts zs)
-are_of_append [] us zs = refl
-are_of_append (t ∷ ts) us [] = refl
-are_of_append (t ∷ ts) us (z ∷ zs) = by_first (is_of t z)
-  where
-    by_first : (b : Bool) → (b && are_of (ts ++ us) zs) ≡ from_rest us (if b then rest_of ts zs else None)
-    by_first true = are_of_append ts us zs
-    by_first false = refl
+pub drop_is : {X : Type 0} → (xs : List X) (i : ℕ) (x : X) → slice_get xs i ≡ Some x → drop i xs ≡ x ∷ drop (i + 1) xs
+drop_is [] i x e = absurd cc
+drop_is (y ∷ ys) zero x e = ap (λ y. y ∷ ys) (some_is y x e)
+drop_is (y ∷ ys) (suc i) x e = drop_is ys i x e
+
+pub drop_none : {X : Type 0} → (xs : List X) (i : ℕ) → slice_get xs i ≡ None → drop i xs ≡ []
+drop_none [] zero e = refl
+drop_none [] (suc i) e = refl
+drop_none (y ∷ ys) zero e = absurd cc
+drop_none (y ∷ ys) (suc i) e = drop_none ys i e
+
+pub arguments_none : (ts : List Ty) → arguments ts [] ≡ []
+arguments_none [] = refl
+arguments_none (t ∷ ts) = refl
+
+pub params_none : (k : ℕ) → param_types k [] ≡ []
+params_none zero = refl
+params_none (suc k) = refl
+
+pub params_step : (n : ℕ) (types : List Ty) (l : Local) (ls : List Local) → length types < n → types ++ param_types (n - length types) (l ∷ ls) ≡ (types ++ l.ty ∷ []) ++ param_types (n - length (types ++ l.ty ∷ [])) ls
+params_step n types l ls lt =
+    let m = n - length (types ++ l.ty ∷ []) in
+    let e : n - length types ≡ suc m = omega (arith, lt, length-append types (l.ty ∷ [])) in
+    ap (λ k. types ++ param_types k (l ∷ ls)) e ∙ sym (append_assoc types (l.ty ∷ []) (param_types m ls))
+
+pub numbers_at : (t : Ty) (zs : List ℤ) → AreNumbersOf t zs → (k : ℕ) → NumberAt (Some t) (slice_get zs k)
+numbers_at t [] h k = tt
+numbers_at t (z ∷ zs) h zero = h.0
+numbers_at t (z ∷ zs) h (suc k) = numbers_at t zs h.1 k
+
+pub map_step : (f : ℤ → Value) (xs : List ℤ) (i : ℕ) (x : ℤ) (v : Value) (list more whole : List Value) → slice_get xs i ≡ Some x → v ≡ f x → more ≡ list ++ v ∷ [] → list ++ map f (drop i xs) ≡ whole → more ++ map f (drop (i + 1) xs) ≡ whole
+map_step f xs i x v list more whole here is pushed so_far =
+    let rest = map f (drop (i + 1) xs) in
+    ap (λ more. more ++ rest) pushed ∙ append_assoc list (v ∷ []) rest ∙ ap (λ v. list ++ v ∷ rest) is ∙ ap (λ ys. list ++ map f ys) (sym (drop_is xs i x here)) ∙ so_far
+
+pub slots_step : (g : Global) (gs : List Global) (zs rest : List ℤ) (slot : Slot) (slots more whole : List Slot) → slot ≡ own_slot g zs → rest ≡ drop (own_width g) zs → more ≡ slots ++ slot ∷ [] → slots ++ global_slots (g ∷ gs) zs ≡ whole → more ++ global_slots gs rest ≡ whole
+slots_step g gs zs rest slot slots more whole is behind pushed so_far =
+    ap (λ more. more ++ global_slots gs rest) pushed ∙ append_assoc slots (slot ∷ []) (global_slots gs rest) ∙ ap (λ s. slots ++ s ∷ global_slots gs rest) is ∙ ap (λ zs'. slots ++ own_slot g zs ∷ global_slots gs zs') behind ∙ ap (λ ss. slots ++ ss) (sym (first_slot g gs zs)) ∙ so_far

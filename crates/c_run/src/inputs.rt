@@ -1,24 +1,24 @@
 //! The store that an input gives (C11 6.7.9; the order of the inputs is this project's own).
 
-ghost use Rattle.std.specs.Prelude.{◌≡◌, ℕ, IsTrue, IfOk, drop, map, slice_get, unwrap_or};
+ghost use Rattle.std.specs.Prelude.{◌≡◌, ℕ, [], ◌∷◌, ◌++◌, Some, IsTrue, IfOk, OnOk, drop, map, slice_get, unwrap_or};
 ghost use Rattle.c_tree.specs.Values as values;
 ghost use Rattle.c_tree.specs.Runs as spec;
-ghost use Rattle.c_tree.specs.WellFormed.{AreNumbersOf, WellFormedGlobal, WellFormedGlobals};
+ghost use Rattle.c_tree.specs.WellFormed.{WellFormedGlobal, WellFormedGlobals};
 ghost use Rattle.c_run.specs.Starts.{NumberAt, Takes, own_width, own_slot};
 
 use crate::values::zero_of;
 use c_tree::{Func, Global as Outside, NoMemory, Slot, Ty, Value};
-use sqlite_items::Items;
+use sqlite_items::{Items, at};
 use std::alloc::Global;
 
 /// A number of a type's range, as a value of it.
-fn of_number(ty: Ty, z: i64) -> Value
-    requires { IsTrue (values.is_of ty z) }
-    ensures { result ≡ values.of_int ty z }
+fn of_number(ty: Ty, z: &i64) -> Value
+    requires { IsTrue (values.is_of ty z.now) }
+    ensures { result ≡ values.of_int ty z.now }
 {
     match ty {
-        Ty::Int => Value::Int(z as i32),
-        Ty::Unsigned => Value::Unsigned(z as u32),
+        Ty::Int => Value::Int(*z as i32),
+        Ty::Unsigned => Value::Unsigned(*z as u32),
     }
 }
 
@@ -48,22 +48,25 @@ pub(crate) fn arguments(
 {
     let mut list = Items::new(alloc);
     for (i, ty) in types.iter().enumerate() {
-        let Some(z) = values.get(i) else {
+        let Some(z) = at(values, i) else {
             return Ok(list);
         };
-        list.push(of_number(*ty, *z))?;
+        list.push(of_number(*ty, z))?;
     }
     Ok(list)
 }
 
 /// The numbers as values of a type.
-fn values_of(alloc: Global, ty: Ty, values: &[i64]) -> Result<Items<Value>, NoMemory>
-    requires { AreNumbersOf ty values.now }
-    ensures { IfOk result (λ vs. vs ≡ map (values.of_int ty) values.now) }
+fn values_of(alloc: Global, ty: Ty, from: &[i64]) -> Result<Items<Value>, NoMemory>
+    requires { (k : ℕ) → NumberAt (Some ty) (slice_get from.now k) }
+    ensures { IfOk result (λ vs. vs ≡ map (values.of_int ty) from.now) }
 {
     let mut list = Items::new(alloc);
-    for z in values {
-        list.push(of_number(ty, *z))?;
+    for i in 0..from.len() {
+        let Some(z) = at(from, i) else {
+            return Err(NoMemory);
+        };
+        list.push(of_number(ty, z))?;
     }
     Ok(list)
 }
@@ -75,13 +78,13 @@ fn global_slot(
     length: Option<u32>,
     numbers: &[i64],
 ) -> Result<Slot, NoMemory>
-    requires { AreNumbersOf ty numbers.now }
+    requires { (k : ℕ) → NumberAt (Some ty) (slice_get numbers.now k) }
     ensures { IfOk result (λ x. x ≡ spec.global_slot ty length numbers.now) }
 {
     match length {
-        None => match numbers.first() {
+        None => match at(numbers, 0) {
             None => Ok(Slot::Number(zero_of(ty))),
-            Some(z) => Ok(Slot::Number(of_number(ty, *z))),
+            Some(z) => Ok(Slot::Number(of_number(ty, z))),
         },
         Some(n) => {
             let mut list = values_of(alloc, ty, numbers)?;
@@ -138,10 +141,17 @@ pub(crate) fn global_slots(
     let mut rest = values;
     for global in globals {
         let (slot, more) = next_slot(alloc, global, rest)?;
-        if slots.push(slot).is_err() {
-            return Err(NoMemory);
-        }
+        push(&mut slots, slot)?;
         rest = more;
     }
     Ok(slots)
+}
+
+fn push(slots: &mut Vec<Slot>, slot: Slot) -> Result<(), NoMemory>
+    ensures { OnOk result (slots.new.items ≡ slots.old.items ++ slot ∷ []) }
+{
+    match slots.push(slot) {
+        Ok(()) => Ok(()),
+        Err(_) => Err(NoMemory),
+    }
 }

@@ -4,7 +4,6 @@
 mod blocks;
 mod calls;
 mod expressions;
-mod fitting;
 mod inputs;
 mod loops;
 mod machine;
@@ -18,6 +17,5 @@ mod statements;
 mod tests;
 mod values;
 
-pub use fitting::fits;
 pub use run_end::RunEnd;
 pub use runs::run;

@@ -1,7 +1,7 @@
 //! Runs of statements (C11 6.8). What is left to do of the statements around the one at work stands in a list on the
 //! heap, so a run needs no more stack where calls and statements lie deeper in one another.
 
-ghost use Rattle.std.specs.Prelude.{◌≡◌, ◌<◌, ◌+◌, ◌%◌, ◌^◌, true, option_map, IfOk, OnOk};
+ghost use Rattle.std.specs.Prelude.{◌≡◌, ◌<◌, ◌+◌, ◌%◌, ◌^◌, true, [], option_map, IfOk, OnOk};
 ghost use Rattle.c_tree.specs.Values.{is_true};
 ghost use Rattle.c_tree.specs.Expressions.{val};
 ghost use Rattle.c_tree.specs.Statements.{block};
@@ -136,6 +136,21 @@ pub(crate) fn condition(e: &Expr, memory: &Memory) -> Option<bool>
 }
 
 impl<'a> Machine<'a> {
+    /// A machine at work in this function, for which nothing waits.
+    pub(crate) fn new(alloc: Global, func: u32, memory: Memory) -> Machine<'a>
+        ensures func { result.func ≡ func }
+        ensures memory { result.memory ≡ memory }
+        ensures pending { result.pending.items ≡ [] }
+        ensures cost { result.cost ≡ 0 }
+    {
+        Machine {
+            func,
+            memory,
+            pending: Vec::new(alloc),
+            cost: 0,
+        }
+    }
+
     /// Has the statement at work wait.
     pub(crate) fn wait(&mut self, pending: Pending<'a>) -> Result<(), NoMemory>
         ensures { OnOk result (Waits self.old self.new pending.entry) }

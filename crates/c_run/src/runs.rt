@@ -69,12 +69,11 @@ pub(crate) fn run_entry(
     ensures { IfOk result (λ e. e ≡ entered given.entry entry.now arguments.now globals.items) }
 {
     let locals = entry_slots(given.alloc, entry.locals.as_slice(), arguments)?;
-    let mut machine = Machine {
-        func: given.program.entry,
-        memory: Memory::new(locals, globals),
-        pending: Vec::new(given.alloc),
-        cost: 0,
-    };
+    let mut machine = Machine::new(
+        given.alloc,
+        given.program.entry,
+        Memory::new(locals, globals),
+    );
     let first = Task::List {
         stmts: entry.body.as_slice(),
         at: 0,

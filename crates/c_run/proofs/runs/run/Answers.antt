@@ -1,9 +1,17 @@
-use Rattle.std.proofs.Common.{◌≡◌, ◌≤◌, ℕ, ◌++◌, drop, length, Option, Some, None, refl, sym, ap, ◌∙◌, subst, arith, IfOk, false}
+use Rattle.std.proofs.Common.{◌≡◌, ◌≤◌, ◌<◌, ℕ, ◌+◌, ◌-◌, List, [], ◌∷◌, ◌++◌, drop, length, get_or, Option, Some, None, refl, sym, ap, ◌∙◌, subst, arith, IfOk, false, append-nil}
 use Rattle.std.specs.Prelude.{IsTrue, slice_get}
-use Rattle.c_tree.specs.Runs.{are_of, input_types, outer_types, entry_types, entry_slots, param_types, run}
+use Rattle.std.proofs.Math.ListN.{drop_of_length-le}
+use Rattle.std.proofs.lemmas.Option.{slice_get_read, slice_get-get_or}
+use Rattle.c_tree.specs.declared.tree.Ty.TheVariants as ty
+use Rattle.c_tree.specs.Values.{is_of, of_int}
+use Rattle.c_tree.specs.Runs.{are_of, input_types, outer_types, entry_types, entry_slots, param_types, arguments, global_slots, run}
+use Rattle.c_tree.specs.WellFormed.{WellFormedGlobals}
+use Rattle.c_run.specs.Starts.{NumberAt, Takes, own_width, own_slot}
+use Rattle.c_run.proofs.InputParts.{number_at, rest_fits, first_takes, rest_takes, drop_is, drop_none, arguments_none, params_none, params_step, numbers_at, map_step, slots_step}
 use Rattle.c_run.specs.Ends.{ended}
-use Rattle.c_run.specs.Machine.{begun}
-use Rattle.c_run.proofs.Exact.{cost_fits, ended_is, run_none, run_some}
+use Rattle.c_run.specs.Machine.{begun, entered, doing}
+use Rattle.c_run.specs.declared.machine.Given.{Given}
+use Rattle.c_run.proofs.Exact.{cost_fits, ended_is, run_none, run_some, begins}
 use Rattle.c_run.proofs.runs.run.Goals as goal
 
 pub returns-in-None : goal.returns-in-None
@@ -20,5 +28,8 @@ returns-in-Some c =
     let t = c.args.costs.now in
     let i = c.args.input.now in
     let h = c.in-Some.entry.now in
-    let there = sym c.in-Some.ensures.value in
-    ?
+    let g : Given = record { alloc = c.args.alloc; program = c.args.program; costs = c.args.costs } in
+    let there : slice_get p.funcs p.entry ≡ Some h = sym c.in-Some.ensures.value in
+    let is = run_some p i h there in
+    let size = λ u e. cost_fits p t c.requires.formed c.costs_are_small.ensures i u (is ∙ e) in
+    subst (λ x. IfOk c.start.result (λ e. e ≡ x)) (ap (begun g h) c.as_slice.ensures ∙ ended_is t h.result _ size ∙ ap (ended t) (sym is)) c.start.ensures
