@@ -6,7 +6,7 @@ use Rattle.c_tree.specs.declared.program.Global.{Global}
 use Rattle.c_tree.specs.declared.program.Local.{Local}
 use Rattle.c_tree.specs.declared.value.Value.{Value}
 use Rattle.c_tree.specs.declared.value.Slot.{Slot}
-use Rattle.c_tree.specs.Values.{is_of}
+use Rattle.c_tree.specs.Values.{is_of, of_int}
 use Rattle.c_tree.specs.Runs.{are_of, types_of, outer_types, param_types, arguments, global_slot, global_slots}
 use Rattle.c_tree.specs.WellFormed.{AreNumbersOf}
 use Rattle.c_run.specs.Starts.{NumberAt, width, Takes, own_width, own_slot}
@@ -85,10 +85,13 @@ first_slot g gs zs =
 some_is : {X : Type 0} → (a b : X) → ◌≡◌ {A = Option X} (Some a) (Some b) → a ≡ b
 some_is a b e = cc
 
+drop_suc : {X : Type 0} → (xs : List X) (i : ℕ) (x : X) → slice_get xs i ≡ Some x → drop i xs ≡ x ∷ drop (suc i) xs
+drop_suc [] i x e = absurd cc
+drop_suc (y ∷ ys) zero x e = ap (λ y. y ∷ ys) (some_is y x e)
+drop_suc (y ∷ ys) (suc i) x e = drop_suc ys i x e
+
 pub drop_is : {X : Type 0} → (xs : List X) (i : ℕ) (x : X) → slice_get xs i ≡ Some x → drop i xs ≡ x ∷ drop (i + 1) xs
-drop_is [] i x e = absurd cc
-drop_is (y ∷ ys) zero x e = ap (λ y. y ∷ ys) (some_is y x e)
-drop_is (y ∷ ys) (suc i) x e = drop_is ys i x e
+drop_is xs i x e = let same : suc i ≡ i + 1 = omega arith in drop_suc xs i x e ∙ ap (λ k. x ∷ drop k xs) same
 
 pub drop_none : {X : Type 0} → (xs : List X) (i : ℕ) → slice_get xs i ≡ None → drop i xs ≡ []
 drop_none [] zero e = refl
@@ -123,3 +126,8 @@ map_step f xs i x v list more whole here is pushed so_far =
 pub slots_step : (g : Global) (gs : List Global) (zs rest : List ℤ) (slot : Slot) (slots more whole : List Slot) → slot ≡ own_slot g zs → rest ≡ drop (own_width g) zs → more ≡ slots ++ slot ∷ [] → slots ++ global_slots (g ∷ gs) zs ≡ whole → more ++ global_slots gs rest ≡ whole
 slots_step g gs zs rest slot slots more whole is behind pushed so_far =
     ap (λ more. more ++ global_slots gs rest) pushed ∙ append_assoc slots (slot ∷ []) (global_slots gs rest) ∙ ap (λ s. slots ++ s ∷ global_slots gs rest) is ∙ ap (λ zs'. slots ++ own_slot g zs ∷ global_slots gs zs') behind ∙ ap (λ ss. slots ++ ss) (sym (first_slot g gs zs)) ∙ so_far
+
+pub args_step : (ts : List Ty) (zs : List ℤ) (i : ℕ) (t : Ty) (z : ℤ) (v : Value) (list more whole : List Value) → slice_get ts i ≡ Some t → slice_get zs i ≡ Some z → v ≡ of_int t z → more ≡ list ++ v ∷ [] → list ++ arguments (drop i ts) (drop i zs) ≡ whole → more ++ arguments (drop (i + 1) ts) (drop (i + 1) zs) ≡ whole
+args_step ts zs i t z v list more whole at_ts at_zs is pushed so_far =
+    let rest = arguments (drop (i + 1) ts) (drop (i + 1) zs) in
+    ap (λ more. more ++ rest) pushed ∙ append_assoc list (v ∷ []) rest ∙ ap (λ v. list ++ v ∷ rest) is ∙ ap (λ ts'. list ++ arguments ts' (z ∷ drop (i + 1) zs)) (sym (drop_is ts i t at_ts)) ∙ ap (λ zs'. list ++ arguments (drop i ts) zs') (sym (drop_is zs i z at_zs)) ∙ so_far

@@ -7,7 +7,7 @@ use Rattle.c_tree.specs.Values.{is_of, of_int}
 use Rattle.c_tree.specs.Runs.{are_of, input_types, outer_types, entry_types, entry_slots, param_types, arguments, global_slots, run}
 use Rattle.c_tree.specs.WellFormed.{WellFormedGlobals}
 use Rattle.c_run.specs.Starts.{NumberAt, Takes, own_width, own_slot}
-use Rattle.c_run.proofs.InputParts.{number_at, rest_fits, first_takes, rest_takes, drop_is, drop_none, arguments_none, params_none, params_step, numbers_at, map_step, slots_step}
+use Rattle.c_run.proofs.InputParts.{number_at, rest_fits, first_takes, rest_takes, drop_is, drop_none, arguments_none, params_none, params_step, numbers_at, map_step, args_step, slots_step}
 use Rattle.c_run.proofs.inputs.arguments.Goals as goal
 
 pub returns-in_default : goal.returns-in_default
@@ -24,3 +24,10 @@ of_number-requires c =
     let i = c.loop-i.i in
     let there = slice_get-get_or ts i ty.Int (omega arith) in
     subst (λ o. NumberAt (Some (get_or ts i ty.Int)) o) (sym c.in-Some.ensures) (subst (λ o. NumberAt o (slice_get c.args.values.now i)) there (c.requires i))
+
+pub loop-i-preserved : goal.loop-i-preserved
+loop-i-preserved c =
+    let ts = c.args.types.now in
+    let i = c.loop-i.i in
+    let there = slice_get-get_or ts i ty.Int (omega arith) in
+    args_step ts c.args.values.now i (get_or ts i ty.Int) c.in-Some.z.now c.of_number.result c.loop-i.list _ _ there (sym c.in-Some.ensures) c.of_number.ensures c.in_ok-push.ensures.ok c.loop-i.invariant

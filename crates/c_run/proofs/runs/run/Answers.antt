@@ -31,5 +31,4 @@ returns-in-Some c =
     let g : Given = record { alloc = c.args.alloc; program = c.args.program; costs = c.args.costs } in
     let there : slice_get p.funcs p.entry ≡ Some h = sym c.in-Some.ensures.value in
     let is = run_some p i h there in
-    let size = λ u e. cost_fits p t c.requires.formed c.costs_are_small.ensures i u (is ∙ e) in
-    subst (λ x. IfOk c.start.result (λ e. e ≡ x)) (ap (begun g h) c.as_slice.ensures ∙ ended_is t h.result _ size ∙ ap (ended t) (sym is)) c.start.ensures
+    subst (λ x. IfOk c.start.result (λ e. e ≡ x)) (ap (begun g h) c.as_slice.ensures ∙ ended_is t h.result _ (λ u e. cost_fits p t c.requires.formed c.costs_are_small.ensures i u (is ∙ e)) ∙ ap (ended t) (sym is)) c.start.ensures
