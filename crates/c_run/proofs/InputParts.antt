@@ -9,7 +9,7 @@ use Rattle.c_tree.specs.declared.value.Slot.{Slot}
 use Rattle.c_tree.specs.Values.{is_of, of_int}
 use Rattle.c_tree.specs.Runs.{are_of, types_of, outer_types, param_types, arguments, global_slot, global_slots}
 use Rattle.c_tree.specs.WellFormed.{AreNumbersOf}
-use Rattle.c_run.specs.Starts.{NumberAt, width, Takes, own_width, own_slot}
+use Rattle.c_run.specs.Starts.{NumberAt, width, Takes, own_width, own_slot, rest_of, own_types}
 
 both : (a b : Bool) → IsTrue (a && b) → IsTrue a × IsTrue b
 both true true h = (refl, refl)
@@ -131,3 +131,56 @@ pub args_step : (ts : List Ty) (zs : List ℤ) (i : ℕ) (t : Ty) (z : ℤ) (v :
 args_step ts zs i t z v list more whole at_ts at_zs is pushed so_far =
     let rest = arguments (drop (i + 1) ts) (drop (i + 1) zs) in
     ap (λ more. more ++ rest) pushed ∙ append_assoc list (v ∷ []) rest ∙ ap (λ v. list ++ v ∷ rest) is ∙ ap (λ ts'. list ++ arguments ts' (z ∷ drop (i + 1) zs)) (sym (drop_is ts i t at_ts)) ∙ ap (λ zs'. list ++ arguments (drop i ts) zs') (sym (drop_is zs i z at_zs)) ∙ so_far
+
+-- ---- inputs that fit, a part at a time
+
+abbrev from_rest : List Ty → Option (List ℤ) → Bool
+from_rest us None = false
+from_rest us (Some zs) = are_of us zs
+
+first_of : (b : Bool) (p q : Bool) → p ≡ q → (b && p) ≡ (if b then q else false)
+first_of true p q e = e
+first_of false p q e = refl
+
+from_if : (b : Bool) (us : List Ty) (o : Option (List ℤ)) → (if b then from_rest us o else false) ≡ from_rest us (if b then o else None)
+from_if true us o = refl
+from_if false us o = refl
+
+-- numbers fit types where the first ones fit the first types, and the rest the others
+are_of_append : (ts us : List Ty) (zs : List ℤ) → are_of (ts ++ us) zs ≡ from_rest us (rest_of ts zs)
+are_of_append [] us zs = refl
+are_of_append (t ∷ ts) us [] = refl
+are_of_append (t ∷ ts) us (z ∷ zs) =
+    first_of (is_of t z) (are_of (ts ++ us) zs) (from_rest us (rest_of ts zs)) (are_of_append ts us zs) ∙ from_if (is_of t z) us (rest_of ts zs)
+
+some_next : (b : Bool) (ts : List Ty) (zs more : List ℤ) → Some more ≡ (if b then Some zs else None) → (if b then rest_of ts zs else None) ≡ rest_of ts more
+some_next true ts zs more e = ap (rest_of ts) (sym (some_is more zs e))
+some_next false ts zs more e = absurd cc
+
+pub next_some : (t : Ty) (ts : List Ty) (zs more : List ℤ) → Some more ≡ rest_of (t ∷ []) zs → rest_of (t ∷ ts) zs ≡ rest_of ts more
+next_some t ts [] more e = absurd cc
+next_some t ts (z ∷ zs) more e = some_next (is_of t z) ts zs more e
+
+none_next : (b : Bool) (ts : List Ty) (zs : List ℤ) → None ≡ (if b then Some zs else None) → (if b then rest_of ts zs else None) ≡ None
+none_next true ts zs e = absurd cc
+none_next false ts zs e = refl
+
+pub next_none : (t : Ty) (ts : List Ty) (zs : List ℤ) → None ≡ rest_of (t ∷ []) zs → rest_of (t ∷ ts) zs ≡ None
+next_none t ts [] e = refl
+next_none t ts (z ∷ zs) e = none_next (is_of t z) ts zs e
+
+global_parts : (g : Global) (gs : List Global) (zs : List ℤ) → are_of (outer_types (g ∷ gs)) zs ≡ from_rest (outer_types gs) (rest_of (own_types g) zs)
+global_parts g gs zs =
+    ap (λ ts. are_of ts zs) (next_types g.outer (types_of g.ty g.length) (outer_types gs)) ∙ are_of_append (own_types g) (outer_types gs) zs
+
+pub global_some : (g : Global) (gs : List Global) (zs more : List ℤ) → Some more ≡ rest_of (own_types g) zs → are_of (outer_types (g ∷ gs)) zs ≡ are_of (outer_types gs) more
+global_some g gs zs more e = global_parts g gs zs ∙ ap (from_rest (outer_types gs)) (sym e)
+
+pub global_none : (g : Global) (gs : List Global) (zs : List ℤ) → None ≡ rest_of (own_types g) zs → are_of (outer_types (g ∷ gs)) zs ≡ false
+global_none g gs zs e = global_parts g gs zs ∙ ap (from_rest (outer_types gs)) (sym e)
+
+pub entry_some : (ts us : List Ty) (zs more : List ℤ) → Some more ≡ rest_of ts zs → are_of us more ≡ are_of (ts ++ us) zs
+entry_some ts us zs more e = ap (from_rest us) e ∙ sym (are_of_append ts us zs)
+
+pub entry_none : (ts us : List Ty) (zs : List ℤ) → None ≡ rest_of ts zs → false ≡ are_of (ts ++ us) zs
+entry_none ts us zs e = ap (from_rest us) e ∙ sym (are_of_append ts us zs)

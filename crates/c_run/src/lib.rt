@@ -4,6 +4,7 @@
 mod blocks;
 mod calls;
 mod expressions;
+mod fitting;
 mod inputs;
 mod loops;
 mod machine;
@@ -17,5 +18,6 @@ mod statements;
 mod tests;
 mod values;
 
+pub use fitting::fits;
 pub use run_end::RunEnd;
 pub use runs::run;

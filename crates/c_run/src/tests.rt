@@ -221,3 +221,23 @@ fn loops_and_calls_end(rt: HostRuntime) {
     assert!(rt; matches!(loops_and_a_call(alloc, 4), Ok(RunEnd::OverBound)));
     assert!(rt; matches!(loops_and_a_call(alloc, 6), Ok(RunEnd::OverBound)));
 }
+
+/// `int f0(void) { return 1; } int f1(void) { { { f0(); } } return 1; } ..`, so many calls deep, each in two lists more.
+fn chain(alloc: Global, n: u32) -> Made<RunEnd> {
+    let mut funcs = Items::new(alloc);
+    let last = list1(alloc, Stmt::Return(Some(int(1))))?;
+    funcs.push(func(alloc, 0, 0, last)?)?;
+    for g in 0..n {
+        let call = Stmt::Call(Target::Nothing, g, Items::new(alloc));
+        let inner = Stmt::Group(list1(alloc, call)?);
+        let outer = Stmt::Group(list1(alloc, inner)?);
+        let body = list2(alloc, outer, Stmt::Return(Some(int(1))))?;
+        funcs.push(func(alloc, 0, 0, body)?)?;
+    }
+    end(alloc, &program(alloc, funcs)?, &[])
+}
+
+#[test]
+fn calls_need_no_stack(rt: HostRuntime) {
+    assert!(rt; matches!(chain(rt.alloc(), 50000), Ok(RunEnd::Ends { cost: 100001 })));
+}
