@@ -1,0 +1,4 @@
+mod DearLayers
+mod LoopLayers
+mod Within
+mod Values

@@ -1,0 +1,3 @@
+pub mod Loops
+pub mod Dear
+pub mod Room

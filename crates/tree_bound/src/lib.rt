@@ -1,0 +1,7 @@
+//! The bound of a program without loops, by recursion over the trees of its functions: a block gives its cost, a call also
+//! its callee's bound, an `if` its dearer side, and a `return` ends all.
+#![tactic(auto)]
+
+mod law;
+
+pub use law::bound_is_above;
