@@ -2,3 +2,8 @@ mod DearLayers
 mod LoopLayers
 mod Within
 mod Values
+mod DearBounds
+mod ListSteps
+mod StmtSteps
+mod Funcs
+mod Worked
