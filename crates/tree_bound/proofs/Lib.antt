@@ -6,4 +6,4 @@ mod DearBounds
 mod ListSteps
 mod StmtSteps
 mod Funcs
-mod Worked
+pub mod Worked

@@ -51,11 +51,26 @@ fn called_twice_costs(alloc: Global) -> Result<Costs, NoMemory>
     Ok(Costs { by_func })
 }
 
+fn bound_of_called_twice(alloc: Global) -> Result<u128, NoMemory> {
+    let program = called_twice(alloc)?;
+    let costs = called_twice_costs(alloc)?;
+    bound_of(alloc, &program, &costs)
+}
+
 #[test]
 fn a_bound_is_computed(rt: HostRuntime) {
-    let program = called_twice(rt.alloc()).expect(&rt, "memory");
-    let costs = called_twice_costs(rt.alloc()).expect(&rt, "memory");
-    assert!(rt; !has_loop(&program));
-    let bound = bound_of(rt.alloc(), &program, &costs).expect(&rt, "memory");
+    let bound = bound_of_called_twice(rt.alloc()).expect(&rt, "memory");
     assert!(rt; bound == 70);
+}
+
+#[test]
+fn a_loop_is_found(rt: HostRuntime) {
+    let mut program = called_twice(rt.alloc()).expect(&rt, "memory");
+    assert!(rt; !has_loop(&program));
+    let mut body = Items::new(rt.alloc());
+    body.push(Stmt::Do(3, Items::new(rt.alloc()), Expr::Num(Ty::Int, 1)))
+        .expect(&rt, "memory");
+    let uncalled = func_of(rt.alloc(), body).expect(&rt, "memory");
+    program.funcs.push(uncalled).expect(&rt, "memory");
+    assert!(rt; has_loop(&program));
 }
