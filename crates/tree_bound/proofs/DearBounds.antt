@@ -1,12 +1,12 @@
 -- The bound of a list, place by place, and that without loops it is at most 2^32 times its span and what follows.
-use Rattle.std.proofs.Common.{◌≡◌, ℕ, ◌+◌, ◌*◌, ◌^◌, ◌<◌, ◌≤◌, zero, suc, max, Bool, true, false, ◌||◌, List, [], ◌∷◌, length, drop, get_or, refl, ap, ◌∙◌, arith}
+use Rattle.std.proofs.Common.{◌≡◌, ℕ, ◌+◌, ◌*◌, ◌^◌, ◌<◌, ◌≤◌, zero, suc, max, Bool, true, false, List, [], ◌∷◌, length, drop, get_or, refl, arith}
 use Rattle.c_tree.specs.declared.tree.Stmt.{Stmt, Row_of-Stmt, end_of-Stmt, more_of-Stmt}
 use Rattle.c_tree.specs.declared.tree.Stmt.TheVariants.{Empty, Scalar, Array, Assign, Call, Break, Continue, Return, If', While', Do', For', Group'}
 use Rattle.c_tree.specs.Blocks.{is_simple, blocks, row_blocks, list_blocks}
 use Rattle.c_tree.specs.Spans.{span_at, begun_span, span, row_span, list_span}
 use Rattle.tree_bound.specs.Loops.{stmt_loops, row_loops, list_loops}
 use Rattle.tree_bound.specs.Dear.{number_at, begun_cost, dear, row_dear, list_dear}
-use Rattle.tree_bound.specs.Room.{AreWithinSpans, HasRoom, goes_on_at}
+use Rattle.tree_bound.specs.Room.{AreWithinSpans, goes_on_at}
 use Rattle.tree_bound.proofs.Within.{both_false}
 
 begun-le : (c : ℕ) (run : Bool) (k : ℕ) → c < 2 ^ 32 → begun_cost c run + k ≤ 2 ^ 32 * begun_span 1 run + k

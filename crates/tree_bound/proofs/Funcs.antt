@@ -1,5 +1,5 @@
 -- The functions of a program, place by place.
-use Rattle.std.proofs.Common.{◌≡◌, ℕ, ◌+◌, ◌*◌, ◌^◌, ◌<◌, ◌≤◌, zero, suc, Bool, false, ◌||◌, List, [], ◌∷◌, ◌++◌, length, take, drop, get_or, Option, Some, None, refl, sym, ◌∙◌, ap, subst, arith, length-append, append_assoc}
+use Rattle.std.proofs.Common.{◌≡◌, ℕ, ◌+◌, ◌*◌, ◌^◌, ◌<◌, ◌≤◌, zero, suc, false, List, [], ◌∷◌, ◌++◌, length, take, drop, get_or, refl, sym, ◌∙◌, ap, subst, arith, length-append, append_assoc}
 use Rattle.std.specs.Prelude.{slice_get, unwrap_or}
 use Rattle.c_tree.specs.declared.program.Costs.{Costs}
 use Rattle.c_tree.specs.declared.program.Func.{Func}
@@ -12,7 +12,6 @@ use Rattle.tree_bound.specs.Loops.{list_loops, funcs_loop}
 use Rattle.tree_bound.specs.Dear.{number_at, row_of, func_dear, dears, list_dear}
 use Rattle.tree_bound.specs.Room.{AreWithinSpans, HasRoom}
 use Rattle.tree_bound.proofs.Within.{both_false}
-use Rattle.tree_bound.proofs.DearBounds.{list_dear-le}
 
 pub number_at-past : (xs : List ℕ) (n : ℕ) → number_at xs n ≡ get_or xs n 0
 number_at-past [] n = refl

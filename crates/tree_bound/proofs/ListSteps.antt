@@ -1,11 +1,11 @@
 -- One step of the walk over a list from its end: from the place j to the place i before it, where the statement `st` stands.
-use Rattle.std.proofs.Common.{◌≡◌, ℕ, ◌+◌, ◌*◌, ◌^◌, ◌<◌, ◌≤◌, suc, Bool, false, List, length, drop, get_or, ap, arith}
+use Rattle.std.proofs.Common.{◌≡◌, ℕ, ◌+◌, ◌^◌, ◌<◌, ◌≤◌, suc, Bool, false, List, length, drop, get_or, ap, arith}
 use Rattle.c_tree.specs.declared.tree.Stmt.{Stmt}
 use Rattle.c_tree.specs.Blocks.{blocks, list_blocks}
 use Rattle.c_tree.specs.Spans.{span, list_span}
 use Rattle.tree_bound.specs.Loops.{stmt_loops, list_loops}
 use Rattle.tree_bound.specs.Dear.{number_at, dear, list_dear}
-use Rattle.tree_bound.specs.Room.{AreWithinSpans, HasRoom, goes_on_at}
+use Rattle.tree_bound.specs.Room.{HasRoom, goes_on_at}
 use Rattle.tree_bound.proofs.DearBounds.{list_dear-le, list_dear-drop, list_blocks-drop, list_blocks-le, list_span-drop, list_loops-at, list_loops-drop}
 
 -- st stands at i, before j

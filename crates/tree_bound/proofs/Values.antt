@@ -1,16 +1,15 @@
 -- Functions in order: each over those above it, with its bound.
-use Rattle.std.proofs.Common.{◌≡◌, ℕ, ◌+◌, ◌≤◌, zero, suc, Bool, false, ◌||◌, IsTrue, List, [], ◌∷◌, ◌++◌, length, Option, Some, None, refl, sym, ◌∙◌, ap, subst, arith}
-use Rattle.std.specs.Prelude.{slice_get, unwrap_or}
+use Rattle.std.proofs.Common.{◌≡◌, ℕ, ◌≤◌, zero, suc, false, List, [], ◌∷◌, ◌++◌, length, refl, sym, ap, subst, arith}
+use Rattle.std.specs.Prelude.{slice_get}
 use Rattle.c_tree.specs.declared.program.BlockName.{BlockName}
 use Rattle.c_tree.specs.declared.program.Costs.{Costs}
 use Rattle.c_tree.specs.declared.program.Func.{Func}
 use Rattle.c_tree.specs.declared.program.Program.{Program}
-use Rattle.c_tree.specs.declared.program.Input.{Input}
 use Rattle.c_tree.specs.declared.value.Value.{Value}
 use Rattle.c_tree.specs.declared.value.Slot.{Slot}
 use Rattle.c_tree.specs.Layouts.{Shape, Layout, local_shapes, global_shapes}
-use Rattle.c_tree.specs.Statements.{Callee, Back, Gives, Lost, Outcome, Ends, Undefined, OverBound, list_exec}
-use Rattle.c_tree.specs.Runs.{Run, Ended, back, entry_slots, callee, callees, run, run_of, started}
+use Rattle.c_tree.specs.Statements.{Callee, Back, Gives, Lost, Ends, Undefined, OverBound, list_exec}
+use Rattle.c_tree.specs.Runs.{Ended, entry_slots, callee, callees, run_of, started}
 use Rattle.c_tree.specs.WellFormed.{Context, WellFormedFunc, WellFormedFuncs, WellFormed}
 use Rattle.c_tree.specs.Claims.{cost, Above}
 use Rattle.tree_bound.specs.Loops.{list_loops, funcs_loop, has_loop}

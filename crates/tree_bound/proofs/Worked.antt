@@ -1,5 +1,5 @@
 -- Worked bounds, computed, and programs that are well-formed.
-use Rattle.std.proofs.Common.{◌≡◌, true, false, refl, arith, rules}
+use Rattle.std.proofs.Common.{◌≡◌, true, false, refl, rules}
 use Rattle.c_tree.specs.declared.tree.Expr.TheBlock as eb
 use Rattle.c_tree.specs.declared.tree.Stmt.TheBlock as sb
 use denote.Hole.Carrier as carrier

@@ -1,5 +1,5 @@
 -- Worked programs with calls, for facts about single bounds.
-use Rattle.std.specs.Prelude.{ℕ, false, List, [], ◌∷◌, Some, None}
+use Rattle.std.specs.Prelude.{ℕ, false, List, [], ◌∷◌, None}
 use Rattle.c_tree.specs.declared.tree.Ty.TheVariants as ty
 use Rattle.c_tree.specs.declared.tree.Var.TheVariants.{Global}
 use Rattle.c_tree.specs.declared.tree.Place.TheVariants as place

@@ -1,10 +1,6 @@
-use Rattle.std.proofs.Common.{◌≡◌, ℕ, ◌+◌, ◌-◌, ◌<◌, ◌≤◌, ◌^◌, suc, max, false, List, length, rules, arith, ap, sym, ◌∙◌}
-use Rattle.c_tree.specs.Blocks.{blocks, list_blocks}
-use Rattle.c_tree.specs.declared.tree.Stmt.{Stmt, the_lemmas}
+use Rattle.std.proofs.Common.{◌≡◌, ℕ, ◌-◌, ◌<◌, suc, length, rules, arith, ap, sym, ◌∙◌}
+use Rattle.c_tree.specs.declared.tree.Stmt.{the_lemmas}
 use Rattle.c_tree.specs.declared.tree.Stmt.TheVariants.{If, Group}
-use Rattle.tree_bound.specs.Loops.{stmt_loops, list_loops}
-use Rattle.tree_bound.specs.Dear.{number_at, list_dear}
-use Rattle.tree_bound.specs.Room.{HasRoom, goes_on_at}
 use Rattle.tree_bound.proofs.ListSteps.{Stands, step-loops, step-fits, step-room, step-first, step-cost}
 use Rattle.tree_bound.proofs.StmtSteps.{call-room, if-loops, if-blocks, first-room, second-room, sides-room, group-loops, group-blocks, group-room}
 use Rattle.tree_bound.proofs.dear.+dear.Goals as goal

@@ -1,4 +1,4 @@
-use Rattle.std.proofs.Common.{◌≡◌, ℕ, ◌+◌, ◌<◌, ◌≤◌, [], length, get_or, arith, ap, sym, ◌∙◌}
+use Rattle.std.proofs.Common.{◌≡◌, [], length, get_or, arith, ap, sym, ◌∙◌}
 use Rattle.tree_bound.specs.Dear.{dears}
 use Rattle.tree_bound.proofs.Funcs.{length-dears, number_at-past}
 use Rattle.tree_bound.proofs.dear.bound_of.Goals as goal

@@ -1,4 +1,4 @@
-use Rattle.std.proofs.Common.{◌≡◌, ℕ, ◌+◌, ◌<◌, ◌^◌, ◌≤◌, false, List, arith, ap}
+use Rattle.std.proofs.Common.{ℕ, ◌<◌, ◌^◌, false, arith, ap}
 use Rattle.tree_bound.specs.Dear.{number_at, list_dear}
 use Rattle.tree_bound.proofs.DearBounds.{list_dear-le}
 use Rattle.tree_bound.proofs.Funcs.{number_at-past}

@@ -1,4 +1,4 @@
-use Rattle.std.proofs.Common.{◌≡◌, ℕ, ◌-◌, ◌<◌, suc, false, length, get_or, arith, ap, sym, ◌∙◌}
+use Rattle.std.proofs.Common.{◌≡◌, ℕ, ◌-◌, ◌<◌, suc, false, length, arith, ap, sym, ◌∙◌}
 use Rattle.c_tree.specs.Blocks.{is_simple}
 use Rattle.tree_bound.specs.Room.{goes_on_at}
 use Rattle.tree_bound.proofs.DearBounds.{goes_on_at-suc}

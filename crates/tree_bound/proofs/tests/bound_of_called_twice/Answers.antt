@@ -1,4 +1,4 @@
-use Rattle.std.proofs.Common.{◌≡◌, false, subst, sym, ap, ◌∙◌}
+use Rattle.std.proofs.Common.{subst, sym, ap, ◌∙◌}
 use Rattle.c_tree.specs.WellFormed.{WellFormed}
 use Rattle.c_tree.specs.Claims.{AreCostsOf}
 use Rattle.tree_bound.specs.Loops.{has_loop}
