@@ -1,0 +1,4 @@
+pub mod Loops
+pub mod Dear
+pub mod Room
+pub mod Worked
