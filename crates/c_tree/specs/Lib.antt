@@ -17,3 +17,8 @@ pub mod Layouts
 pub mod WellFormed
 pub mod Asked
 pub mod Kept
+pub mod Scopes
+pub mod Constants
+pub mod Naming
+pub mod Uses
+pub mod Refusals
