@@ -18,3 +18,4 @@ pub mod Arithmetic
 pub mod Traces
 pub mod WorkedWellFormed
 pub mod FormedLayers
+mod WorkedChecks
