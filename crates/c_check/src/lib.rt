@@ -1,0 +1,8 @@
+//! From the tree of a C text to its program: names become numbers, and what is not allowed is refused with its place.
+#![tactic(auto)]
+
+mod constants;
+mod fault;
+mod names;
+mod operators;
+pub use fault::CheckFault;

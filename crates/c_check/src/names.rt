@@ -1,0 +1,137 @@
+//! The names in scope.
+
+ghost use Rattle.std.specs.Prelude.{◌≡◌, ◌++◌, ◌<◌, ◌≤◌, ◌-◌, ℕ, List, ◌∷◌, [], length, take, OnOk, OnErr, option_map, Option};
+ghost use Rattle.c_tree.specs.Scopes as scope;
+ghost use Rattle.c_check.specs.Tables.{known, last_binding, IsTable, entity_of, known_as};
+
+use c_tree::{NoMemory, Ty, Var};
+use std::alloc::Global;
+use std::collections::BTreeMap;
+use std::marker::Model;
+
+/// What a name stands for (C11 6.2.1): a variable, whether it is an array and whether it is `const`; or the function of a
+/// number.
+#[derive(Clone, Copy)]
+pub(crate) enum Entity {
+    Variable {
+        var: Var,
+        array: bool,
+        constant: bool,
+    },
+    Function {
+        number: u32,
+        params: usize,
+        result: Option<Ty>,
+    },
+}
+
+/// What a name stands for, and the depth of the scope that declares it.
+#[derive(Clone, Copy)]
+pub(crate) struct Binding {
+    pub(crate) depth: usize,
+    pub(crate) entity: Entity,
+}
+
+/// A declared name, and the binding of the same name that it hides.
+#[derive(Clone, Copy)]
+pub(crate) struct Declaration<'a> {
+    pub(crate) name: &'a [u8],
+    pub(crate) binding: Binding,
+    pub(crate) hidden: Option<Binding>,
+}
+
+/// The names in scope in the order of their declarations, with the last binding of each at hand.
+#[derive(Drop)]
+pub(crate) struct Names<'a> {
+    latest: BTreeMap<&'a [u8], Binding>,
+    declared: Vec<Declaration<'a>>,
+}
+
+impl<'a> Model for Names<'a> {
+    ghost Value = { List scope.Known };
+
+    ghost view = { λ n. known n.declared.items };
+
+    ghost invariant = { λ n. IsTable n.latest n.declared.items };
+}
+
+impl<'a> Names<'a> {
+    pub(crate) fn new(alloc: Global) -> Self
+        ensures { result ≡ [] }
+    {
+        Names {
+            latest: BTreeMap::new(alloc),
+            declared: Vec::new(alloc),
+        }
+    }
+
+    /// How many names are in scope, hidden ones among them.
+    pub(crate) fn len(&self) -> usize
+        ensures { result ≡ length self.now }
+    {
+        self.declared.len()
+    }
+
+    /// The last binding of a name.
+    pub(crate) fn latest(&self, name: &[u8]) -> Option<Binding>
+        ensures { option_map (known_as name.now) result ≡ scope.latest self.now name.now }
+    {
+        self.latest.get(name).copied()
+    }
+
+    /// Declares a name. At want of memory the names are as before.
+    pub(crate) fn declare(&mut self, name: &'a [u8], depth: usize, entity: Entity) -> Result<(), NoMemory>
+        ensures declared { OnOk result (self.new ≡ self.old ++ (record { name = name.now; depth = depth; entity = entity_of entity }) ∷ []) }
+        ensures same { OnErr result (self.new ≡ self.old) }
+    {
+        let binding = Binding { depth, entity };
+        let hidden = self.latest.get(name).copied();
+        let declaration = Declaration {
+            name,
+            binding,
+            hidden,
+        };
+        if self.declared.push(declaration).is_err() {
+            return Err(NoMemory);
+        }
+        if self.latest.insert(name, binding).is_err() {
+            let _ = self.declared.pop();
+            return Err(NoMemory);
+        }
+        Ok(())
+    }
+
+    /// Takes back the last declaration. At want of memory the names are as before.
+    fn undo(&mut self) -> Result<(), NoMemory>
+        requires { 0 < length self.old }
+        ensures one { OnOk result (self.new ≡ take (length self.old - 1) self.old) }
+        ensures same { OnErr result (self.new ≡ self.old) }
+    {
+        let Some(last) = self.declared.last() else {
+            return Ok(());
+        };
+        let Declaration { name, hidden, .. } = *last;
+        match hidden {
+            Some(binding) => {
+                if self.latest.insert(name, binding).is_err() {
+                    return Err(NoMemory);
+                }
+            }
+            None => {
+                self.latest.remove(name);
+            }
+        }
+        let _ = self.declared.pop();
+        Ok(())
+    }
+
+    /// Takes back all declarations but the first `count`.
+    pub(crate) fn close(&mut self, count: usize) -> Result<(), NoMemory>
+        ensures { OnOk result (self.new ≡ take count self.old) }
+    {
+        while self.len() > count {
+            self.undo()?;
+        }
+        Ok(())
+    }
+}
