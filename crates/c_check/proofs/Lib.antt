@@ -1,1 +1,2 @@
 pub mod ConstantLayers
+pub mod NameTables

@@ -27,9 +27,17 @@ abbrev pub last_binding : List Declaration → List ℕ → Option Binding
 last_binding [] name = None
 last_binding (d ∷ ds) name = option_or (last_binding ds name) (if bytes_eq d.name.now name then Some d.binding else None)
 
+-- what the map has for a name
+abbrev pub looked_up : BTreeMap (Bor (List ℕ)) Binding → List ℕ → Option Binding
+looked_up m q = get_by (λ k. slice_cmp nat_cmp q k.now) m
+
 -- the map has the last binding of each name
 abbrev pub Shows : BTreeMap (Bor (List ℕ)) Binding → List Declaration → Type 0
-Shows m ds = (q : List ℕ) → get_by (λ k. slice_cmp nat_cmp q k.now) m ≡ last_binding ds q
+Shows m ds = (q : List ℕ) → looked_up m q ≡ last_binding ds q
+
+-- the new map has this for the name, and for each other name what the old one has
+abbrev pub Rebinds : (m n : BTreeMap (Bor (List ℕ)) Binding) → List ℕ → Option Binding → Type 0
+Rebinds m n name b = (q : List ℕ) → looked_up n q ≡ (if bytes_eq name q then b else looked_up m q)
 
 -- each declaration keeps the binding that it hides, after those before it
 abbrev pub HideAfter : List Declaration → List Declaration → Type 0

@@ -2,7 +2,7 @@
 
 ghost use Rattle.std.specs.Prelude.{◌≡◌, ◌++◌, ◌<◌, ◌≤◌, ◌-◌, ℕ, List, ◌∷◌, [], length, take, OnOk, OnErr, option_map, Option};
 ghost use Rattle.c_tree.specs.Scopes as scope;
-ghost use Rattle.c_check.specs.Tables.{known, last_binding, IsTable, entity_of, known_as};
+ghost use Rattle.c_check.specs.Tables.{known, last_binding, IsTable, Rebinds, entity_of, known_as};
 
 use c_tree::{NoMemory, Ty, Var};
 use std::alloc::Global;
@@ -91,14 +91,17 @@ impl<'a> Names<'a> {
             binding,
             hidden,
         };
-        if self.declared.push(declaration).is_err() {
-            return Err(NoMemory);
+        match self.declared.push(declaration) {
+            Ok(()) => {}
+            Err(_) => return Err(NoMemory),
         }
-        if self.latest.insert(name, binding).is_err() {
-            let _ = self.declared.pop();
-            return Err(NoMemory);
+        match rebind(&mut self.latest, name, Some(binding)) {
+            Ok(()) => Ok(()),
+            Err(e) => {
+                let _ = self.declared.pop();
+                Err(e)
+            }
         }
-        Ok(())
     }
 
     /// Takes back the last declaration. At want of memory the names are as before.
@@ -110,17 +113,8 @@ impl<'a> Names<'a> {
         let Some(last) = self.declared.last() else {
             return Ok(());
         };
-        let Declaration { name, hidden, .. } = *last;
-        match hidden {
-            Some(binding) => {
-                if self.latest.insert(name, binding).is_err() {
-                    return Err(NoMemory);
-                }
-            }
-            None => {
-                self.latest.remove(name);
-            }
-        }
+        let last = *last;
+        rebind(&mut self.latest, last.name, last.hidden)?;
         let _ = self.declared.pop();
         Ok(())
     }
@@ -133,5 +127,26 @@ impl<'a> Names<'a> {
             self.undo()?;
         }
         Ok(())
+    }
+}
+
+// Lets a name stand for this, or for nothing. At want of memory each stands for what it did.
+fn rebind<'a>(
+    latest: &mut BTreeMap<&'a [u8], Binding>,
+    name: &'a [u8],
+    binding: Option<Binding>,
+) -> Result<(), NoMemory>
+    ensures rebound { OnOk result (Rebinds latest.old latest.new name.now binding) }
+    ensures same { OnErr result (latest.new.entries ≡ latest.old.entries) }
+{
+    match binding {
+        Some(binding) => match latest.insert(name, binding) {
+            Ok(_) => Ok(()),
+            Err(_) => Err(NoMemory),
+        },
+        None => {
+            latest.remove(name);
+            Ok(())
+        }
     }
 }
