@@ -1,2 +1,4 @@
 pub mod ConstantLayers
 pub mod NameTables
+pub mod Heard
+pub mod UseLayers

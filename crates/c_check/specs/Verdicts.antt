@@ -7,6 +7,7 @@ use Rattle.c_tree.specs.Refusals.{number, faults_of}
 use Rattle.c_check.specs.declared.fault.Fault.{Fault}
 use Rattle.c_check.specs.declared.fault.Fault.TheVariants as fault
 use Rattle.c_check.specs.declared.fault.Refusal.{Refusal}
+use Rattle.c_check.specs.declared.verdict.Verdict.{Verdict}
 
 abbrev pub fault_of : Fault → spec.Fault
 fault_of fault.NoName = spec.NoName
@@ -42,7 +43,14 @@ abbrev pub after_all : Option spec.Refusal → List spec.Refusal → Option spec
 after_all f [] = f
 after_all f (r ∷ rs) = after_all (after_one f r) rs
 
--- and after the faults of these uses
+-- and after the faults of a use, and of these uses
+unfoldable pub after_use : Option spec.Refusal → Use → Option spec.Refusal
+after_use f u = after_all f (faults_of u)
+
 unfoldable pub after_uses : Option spec.Refusal → List Use → Option spec.Refusal
 after_uses f [] = f
-after_uses f (u ∷ us) = after_uses (after_all f (faults_of u)) us
+after_uses f (u ∷ us) = after_uses (after_use f u) us
+
+-- the first refusal that the code has heard of
+abbrev pub first_of : Verdict → Option spec.Refusal
+first_of v = option_map refusal_of v.first

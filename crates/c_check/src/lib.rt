@@ -2,7 +2,10 @@
 #![tactic(auto)]
 
 mod constants;
+mod expr;
 mod fault;
 mod names;
 mod operators;
+mod verdict;
+
 pub use fault::CheckFault;

@@ -55,6 +55,30 @@ impl<'a> Model for Names<'a> {
     ghost invariant = { λ n. IsTable n.latest n.declared.items };
 }
 
+impl Entity {
+    /// The variable, if it is one; else any.
+    pub(crate) fn variable(entity: Option<Entity>) -> Var
+        ensures { result ≡ scope.variable (option_map entity_of entity) }
+    {
+        match entity {
+            Some(Entity::Variable { var, .. }) => var,
+            Some(Entity::Function { .. }) => Var::Local(0),
+            None => Var::Local(0),
+        }
+    }
+
+    /// The function's number, if it is one; else any.
+    pub(crate) fn function_number(entity: Option<Entity>) -> u32
+        ensures { result ≡ scope.function_number (option_map entity_of entity) }
+    {
+        match entity {
+            Some(Entity::Function { number, .. }) => number,
+            Some(Entity::Variable { .. }) => 0,
+            None => 0,
+        }
+    }
+}
+
 impl<'a> Names<'a> {
     pub(crate) fn new(alloc: Global) -> Self
         ensures { result ≡ [] }
@@ -77,6 +101,26 @@ impl<'a> Names<'a> {
         ensures { option_map (known_as name.now) result ≡ scope.latest self.now name.now }
     {
         self.latest.get(name).copied()
+    }
+
+    /// What a name stands for.
+    pub(crate) fn entity(&self, name: &[u8]) -> Option<Entity>
+        ensures { option_map entity_of result ≡ scope.entity_of self.now name.now }
+    {
+        match self.latest(name) {
+            None => None,
+            Some(binding) => Some(binding.entity),
+        }
+    }
+
+    /// Whether the scope of this depth, the innermost one, has the name already.
+    pub(crate) fn is_known_at(&self, depth: usize, name: &[u8]) -> bool
+        ensures { result ≡ scope.is_known_at self.now depth name.now }
+    {
+        match self.latest(name) {
+            None => false,
+            Some(binding) => binding.depth == depth,
+        }
     }
 
     /// Declares a name. At want of memory the names are as before.
