@@ -2,3 +2,4 @@ pub mod ConstantLayers
 pub mod NameTables
 pub mod Heard
 pub mod UseLayers
+pub mod Steps
