@@ -3,3 +3,4 @@ pub mod NameTables
 pub mod Heard
 pub mod UseLayers
 pub mod Steps
+pub mod StmtLayers

@@ -1,3 +1,4 @@
 pub mod Tables
 pub mod Verdicts
 pub mod Answers
+pub mod Walks

@@ -1,9 +1,9 @@
 //! The names of expressions.
 
-ghost use Rattle.std.specs.Prelude.{◌≡◌, IfOk, OnOk, option_map};
+ghost use Rattle.std.specs.Prelude.{◌≡◌, IfOk, OnOk, [], option_map, unwrap_or, length};
 ghost use Rattle.c_tree.specs.Constants as spec;
 ghost use Rattle.c_tree.specs.Naming.{optional};
-ghost use Rattle.c_tree.specs.Uses.{expr_uses, exprs_uses, optional_uses, constant_uses};
+ghost use Rattle.c_tree.specs.Uses.{expr_uses, exprs_uses, optional_uses, constant_uses, length_uses, list_uses};
 ghost use Rattle.c_tree.specs.Scopes.{variable};
 ghost use Rattle.c_check.specs.Tables.{entity_of};
 ghost use Rattle.c_check.specs.Verdicts.{first_of, after_uses};
@@ -150,4 +150,47 @@ pub(crate) fn constant(
     let value = constants::constant(e);
     verdict.constant(constants::first_token(e), value);
     Ok(value)
+}
+
+/// The length of an array, if it is written.
+#[tactic(auto, using(crate::proofs::Heard::heard))]
+pub(crate) fn length(
+    alloc: Global,
+    names: &Names,
+    verdict: &mut Verdict,
+    e: &Option<RawExpr>,
+) -> Result<(), NoMemory>
+    ensures { OnOk result (first_of verdict.new ≡ after_uses (first_of verdict.old) (length_uses names.now e.now)) }
+{
+    if let Some(e) = e {
+        let _ = constant(alloc, names, verdict, e)?;
+    }
+    Ok(())
+}
+
+/// The expressions of a list, if there is one; else none.
+#[tactic(auto, using(crate::proofs::Heard::heard))]
+pub(crate) fn list(
+    alloc: Global,
+    names: &Names,
+    verdict: &mut Verdict,
+    list: &Option<Items<RawExpr>>,
+) -> Result<Items<Expr>, NoMemory>
+    ensures tree { IfOk result (λ xs. xs ≡ spec.exprs_of names.now (unwrap_or list.now [])) }
+    ensures first { OnOk result (first_of verdict.new ≡ after_uses (first_of verdict.old) (list_uses names.now list.now)) }
+{
+    match list {
+        None => Ok(Items::new(alloc)),
+        Some(list) => exprs(alloc, names, verdict, list.as_slice()),
+    }
+}
+
+/// How long a list is, if there is one.
+pub(crate) fn count(list: &Option<Items<RawExpr>>) -> Option<usize>
+    ensures { result ≡ option_map length list.now }
+{
+    match list {
+        None => None,
+        Some(list) => Some(list.len()),
+    }
 }

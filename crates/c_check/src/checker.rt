@@ -1,0 +1,133 @@
+//! The walk over a function: its scopes, its locals and its declarations.
+
+ghost use Rattle.std.specs.Prelude.{◌≡◌, IfOk, OnOk, List, [], option_map, length, unwrap_or, Some};
+ghost use Rattle.c_tree.specs.Naming as naming;
+ghost use Rattle.c_tree.specs.Constants.{exprs_of, array_length, shape_length};
+ghost use Rattle.c_tree.specs.Uses.{declared_at, length_uses, list_uses, declarator_uses, sized};
+ghost use Rattle.c_check.specs.Verdicts.{first_of, after_use, after_uses};
+ghost use Rattle.c_check.specs.Walks.{scope_of, within, IsOuter, ended};
+
+use crate::constants;
+use crate::expr;
+use crate::names::{Entity, Names};
+use crate::verdict::Verdict;
+use c_tree::{Expr, Local, Name, NoMemory, RawExpr, RawShape, Spot, Stmt, Ty, Var};
+use sqlite_items::Items;
+use std::alloc::Global;
+
+/// Where the walk stands: the names in scope, the depth of the innermost scope, the function's locals so far, its number and
+/// what it returns, whether a loop is around, and what is wrong so far.
+#[derive(Drop)]
+pub(crate) struct Checker<'a> {
+    pub(crate) alloc: Global,
+    pub(crate) names: Names<'a>,
+    pub(crate) depth: usize,
+    pub(crate) locals: Items<Local>,
+    pub(crate) func: u32,
+    pub(crate) returns: Option<Ty>,
+    pub(crate) looped: bool,
+    pub(crate) verdict: Verdict,
+}
+
+/// What is kept of a scope while one inside it is open: its depth, whether a loop is around it, and how many names it has.
+#[derive(Clone, Copy)]
+pub(crate) struct Outer {
+    pub(crate) depth: usize,
+    pub(crate) looped: bool,
+    pub(crate) count: usize,
+}
+
+impl<'a> Checker<'a> {
+    /// Opens a scope inside.
+    pub(crate) fn open(&mut self, looped: bool) -> Result<Outer, NoMemory>
+        ensures outer { IfOk result (IsOuter (scope_of self.old)) }
+        ensures scope { OnOk result (scope_of self.new ≡ within (scope_of self.old) looped) }
+        ensures same { first_of self.new.verdict ≡ first_of self.old.verdict }
+    {
+        let outer = Outer {
+            depth: self.depth,
+            looped: self.looped,
+            count: self.names.len(),
+        };
+        match self.depth.checked_add(1) {
+            Some(depth) => self.depth = depth,
+            None => return Err(NoMemory),
+        }
+        self.looped = looped;
+        Ok(outer)
+    }
+
+    /// Ends the scope inside.
+    pub(crate) fn close(&mut self, outer: Outer) -> Result<(), NoMemory>
+        ensures scope { OnOk result (scope_of self.new ≡ ended (scope_of self.old) outer) }
+        ensures same { first_of self.new.verdict ≡ first_of self.old.verdict }
+    {
+        self.names.close(outer.count)?;
+        self.depth = outer.depth;
+        self.looped = outer.looped;
+        Ok(())
+    }
+
+    /// Declares a local, an array where it has a length, and answers its number.
+    pub(crate) fn declare(
+        &mut self,
+        constant: bool,
+        ty: Ty,
+        x: &'a Spot,
+        size: Option<u32>,
+    ) -> Result<u32, NoMemory>
+        ensures number { IfOk result (λ n. n ≡ length self.old.locals) }
+        ensures scope { OnOk result (scope_of self.new ≡ naming.declared (scope_of self.old) constant ty x.now.name size) }
+        ensures first { OnOk result (first_of self.new.verdict ≡ after_use (first_of self.old.verdict) (declared_at self.old.names self.old.depth x.now)) }
+    {
+        let name = x.name.as_slice();
+        let again = self.names.is_known_at(self.depth, name);
+        self.verdict.declared(x.at, again);
+        let Ok(local) = u32::try_from(self.locals.len()) else {
+            return Err(NoMemory);
+        };
+        let entity = Entity::Variable {
+            var: Var::Local(local),
+            array: size.is_some(),
+            constant,
+        };
+        self.names.declare(name, self.depth, entity)?;
+        let name = Name::from_slice(self.alloc, name)?;
+        self.locals.push(Local {
+            name,
+            ty,
+            length: size,
+        })?;
+        Ok(local)
+    }
+
+    /// A declaration in a list.
+    #[tactic(auto, using(crate::proofs::Heard::heard))]
+    pub(crate) fn declaration(
+        &mut self,
+        constant: bool,
+        ty: Ty,
+        x: &'a Spot,
+        shape: &RawShape,
+    ) -> Result<Stmt, NoMemory>
+        ensures tree { IfOk result (λ s. s ≡ naming.declaration (naming.declared (scope_of self.old) constant ty x.now.name (shape_length shape.now)).known (length self.old.locals) shape.now) }
+        ensures scope { OnOk result (scope_of self.new ≡ naming.declared (scope_of self.old) constant ty x.now.name (shape_length shape.now)) }
+        ensures first { OnOk result (first_of self.new.verdict ≡ after_uses (first_of self.old.verdict) (declarator_uses (scope_of self.old) constant ty x.now shape.now)) }
+    {
+        match shape {
+            RawShape::Scalar(e) => {
+                let local = self.declare(constant, ty, x, None)?;
+                let e = expr::optional(self.alloc, &self.names, &mut self.verdict, e)?;
+                Ok(Stmt::Scalar(local, e))
+            }
+            RawShape::Array(length, list) => {
+                expr::length(self.alloc, &self.names, &mut self.verdict, length)?;
+                let size = constants::array_length(length, list)?;
+                let local = self.declare(constant, ty, x, Some(size))?;
+                self.verdict.sized(x.at, size, expr::count(list), true);
+                let list = expr::list(self.alloc, &self.names, &mut self.verdict, list)?;
+                Ok(Stmt::Array(local, list))
+            }
+        }
+    }
+}
