@@ -4,3 +4,5 @@ pub mod Heard
 pub mod UseLayers
 pub mod Steps
 pub mod StmtLayers
+pub mod Growth
+pub mod ForLoops

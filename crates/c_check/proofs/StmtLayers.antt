@@ -21,7 +21,7 @@ use Rattle.c_tree.specs.Scopes.{entity_of, function_number}
 use Rattle.c_tree.specs.Constants.{expr_of, exprs_of, shape_length}
 use Rattle.c_tree.specs.Naming.{Scope, declared, opened, looping, past, stmt_locals, row_locals, held_locals, list_locals, behind, optional, place_of, declaration, target_of, bound_number, targeted, stmt_of, row_stmts, held_stmt, sole_stmt, held_behind, row_behind, stmts_of}
 use Rattle.c_tree.specs.Uses.{Use, Left, Looped, Returned, expr_uses, optional_uses, declarator_uses, place_uses, target_uses, has_target, call_uses, stmt_uses, row_stmt_uses, held_uses, stmts_uses}
-use Rattle.c_check.specs.Walks.{option_behind, option_uses}
+use Rattle.c_check.specs.Walks.{option_behind, option_uses, option_locals}
 
 append_nil : {A : Type 0} (xs : List A) → xs ++ [] ≡ xs
 append_nil [] = refl
@@ -45,10 +45,6 @@ uses_row s [] = refl
 uses_row s (x ∷ xs) = ap (λ l. stmt_uses s x ++ l) (uses_row (behind s x) xs)
 
 -- ---- one statement, or none
-
-abbrev pub option_locals : Option RawStmt → List Local
-option_locals None = []
-option_locals (Some x) = stmt_locals x
 
 locals_held : (o : Option RawStmt) → held_locals (back-RawStmt-For-2 o) ≡ option_locals o
 unfolding stmt_locals row_locals held_locals shape-the_row-RawStmt-1 hidden-the_row-RawStmt-1 hidden
@@ -191,8 +187,8 @@ pub ruleset stmt_use_layers = (stmt_uses-Empty, stmt_uses-Declare, stmt_uses-Ass
 past_none : (s : Scope) → past s [] ≡ s
 past_none s = ap (λ ls. let t : Scope = record s { locals = ls } in t) (append_nil s.locals)
 
-pub past-past : (s : Scope) (as bs : List Local) → past (past s as) bs ≡ past s (as ++ bs)
-past-past s as bs = ap (λ ls. let t : Scope = record s { locals = ls } in t) (append_assoc s.locals as bs)
+pub past-past : (s : Scope) (ls ms : List Local) → past (past s ls) ms ≡ past s (ls ++ ms)
+past-past s ls ms = ap (λ ns. let t : Scope = record s { locals = ns } in t) (append_assoc s.locals ls ms)
 
 pub behind-Empty : (s : Scope) → behind s Empty ≡ s
 unfolding behind stmt_locals

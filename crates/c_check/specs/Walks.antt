@@ -1,7 +1,8 @@
 -- Where the walk over a function stands, and statements that may be there or not.
-use Rattle.std.specs.Prelude.{◌≡◌, ℕ, ◌+◌, Bool, List, [], ◌∷◌, length, take, Option, Some, None}
+use Rattle.std.specs.Prelude.{◌≡◌, ℕ, ◌+◌, Bool, List, [], ◌∷◌, ◌++◌, length, take, Option, Some, None, option_map}
+use Rattle.c_tree.specs.declared.program.Local.{Local}
 use Rattle.c_tree.specs.declared.unit.RawStmt.{RawStmt}
-use Rattle.c_tree.specs.Naming.{Scope, behind}
+use Rattle.c_tree.specs.Naming.{Scope, behind, stmt_locals}
 use Rattle.c_tree.specs.Uses.{Use, stmt_uses}
 use Rattle.c_check.specs.declared.checker.Checker.{Checker}
 use Rattle.c_check.specs.declared.checker.Outer.{Outer}
@@ -31,3 +32,7 @@ option_behind s (Some x) = behind s x
 abbrev pub option_uses : Scope → Option RawStmt → List Use
 option_uses s None = []
 option_uses s (Some x) = stmt_uses s x
+
+abbrev pub option_locals : Option RawStmt → List Local
+option_locals None = []
+option_locals (Some x) = stmt_locals x

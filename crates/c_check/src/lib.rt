@@ -7,6 +7,7 @@ mod expr;
 mod fault;
 mod names;
 mod operators;
+mod stmt;
 mod verdict;
 
 pub use fault::CheckFault;
