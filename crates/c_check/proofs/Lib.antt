@@ -6,3 +6,4 @@ pub mod Steps
 pub mod StmtLayers
 pub mod Growth
 pub mod ForLoops
+pub mod FileLayers

@@ -1,19 +1,21 @@
 //! The walk over a function: its scopes, its locals and its declarations.
 
-ghost use Rattle.std.specs.Prelude.{◌≡◌, IfOk, OnOk, List, [], option_map, length, unwrap_or, Some};
+ghost use Rattle.std.specs.Prelude.{◌≡◌, ◌++◌, IfOk, OnOk, List, [], option_map, length, unwrap_or, Some};
 ghost use Rattle.c_tree.specs.Naming as naming;
 ghost use Rattle.c_tree.specs.Constants.{exprs_of, array_length, shape_length};
-ghost use Rattle.c_tree.specs.Uses.{declared_at, length_uses, list_uses, declarator_uses, sized};
+ghost use Rattle.c_tree.specs.Uses.{declared_at, length_uses, list_uses, declarator_uses, sized, params_uses, stmts_uses};
+ghost use Rattle.c_tree.specs.Naming.{stmts_of, list_behind};
+ghost use Rattle.c_check.specs.Entered.{entered};
 ghost use Rattle.c_check.specs.Verdicts.{first_of, after_use, after_uses};
 ghost use Rattle.c_check.specs.Walks.{scope_of, within, IsOuter, ended};
 
-use crate::constants;
-use crate::expr;
 use crate::names::{Entity, Names};
 use crate::verdict::Verdict;
-use c_tree::{Expr, Local, Name, NoMemory, RawExpr, RawShape, Spot, Stmt, Ty, Var};
+use crate::{constants, expr};
+use c_tree::{Local, Name, NoMemory, RawFunc, RawParam, RawShape, Spot, Stmt, Ty, Var};
 use sqlite_items::Items;
 use std::alloc::Global;
+use std::mem;
 
 /// Where the walk stands: the names in scope, the depth of the innermost scope, the function's locals so far, its number and
 /// what it returns, whether a loop is around, and what is wrong so far.
@@ -130,4 +132,52 @@ impl<'a> Checker<'a> {
             }
         }
     }
+
+    /// Declares the parameters in order.
+    #[tactic(auto, using(crate::proofs::Heard::heard))]
+    fn params(&mut self, params: &'a [RawParam]) -> Result<(), NoMemory>
+        ensures scope { OnOk result (scope_of self.new ≡ naming.with_params (scope_of self.old) params.now) }
+        ensures first { OnOk result (first_of self.new.verdict ≡ after_uses (first_of self.old.verdict) (params_uses (scope_of self.old) params.now)) }
+    {
+        for param in params {
+            let _ = self.declare(false, param.ty, &param.spot, None)?;
+        }
+        Ok(())
+    }
+
+    // Begins the function of a number.
+    fn enter(&mut self, number: u32, returns: Option<Ty>)
+        ensures scope { scope_of self.new ≡ entered self.old.names number returns }
+        ensures same { first_of self.new.verdict ≡ first_of self.old.verdict }
+    {
+        self.depth = 2;
+        self.locals = Items::new(self.alloc);
+        self.func = number;
+        self.returns = returns;
+        self.looped = false;
+    }
+
+    /// The locals and the statements of the function of a number. Its names are in scope no more.
+    #[tactic(auto, using(crate::proofs::Heard::heard))]
+    pub(crate) fn function(&mut self, number: u32, func: &'a RawFunc) -> Result<Body, NoMemory>
+        ensures locals { IfOk result (λ b. b.locals ≡ (list_behind (naming.with_params (entered self.old.names number func.now.result) func.now.params) func.now.body).locals) }
+        ensures stmts { IfOk result (λ b. b.stmts ≡ stmts_of (naming.with_params (entered self.old.names number func.now.result) func.now.params) func.now.body) }
+        ensures names { OnOk result (self.new.names ≡ self.old.names) }
+        ensures first { OnOk result (first_of self.new.verdict ≡ after_uses (first_of self.old.verdict) (params_uses (entered self.old.names number func.now.result) func.now.params ++ stmts_uses (naming.with_params (entered self.old.names number func.now.result) func.now.params) func.now.body)) }
+    {
+        let count = self.names.len();
+        self.enter(number, func.result);
+        self.params(func.params.as_slice())?;
+        let stmts = self.stmts(func.body.as_slice())?;
+        self.names.close(count)?;
+        let locals = mem::replace(&mut self.locals, Items::new(self.alloc));
+        Ok(Body { locals, stmts })
+    }
+}
+
+/// The locals of a function, its parameters first, and the statements of its outermost list.
+#[derive(Drop)]
+pub(crate) struct Body {
+    pub(crate) locals: Items<Local>,
+    pub(crate) stmts: Items<Stmt>,
 }

@@ -1,6 +1,6 @@
 //! Constant expressions (C11 6.6) and the lengths of arrays.
 
-ghost use Rattle.std.specs.Prelude.{◌≡◌, IfOk, List, ℕ, []};
+ghost use Rattle.std.specs.Prelude.{◌≡◌, IfOk, Some, None, []};
 ghost use Rattle.c_tree.specs.Constants as spec;
 ghost use Rattle.c_tree.specs.Expressions.{val, type_of, bin_ty, un_ty, chosen};
 
@@ -146,12 +146,17 @@ fn length_number(constant: Option<Value>) -> u32
     ensures { result ≡ spec.length_number constant }
 {
     match constant {
-        Some(Value::Int(z)) => {
-            if z < 0 { 0 } else { z as u32 }
-        }
+        Some(Value::Int(z)) => { if z < 0 { 0 } else { z as u32 } }
         Some(Value::Unsigned(n)) => n,
         None => 0,
     }
+}
+
+/// The length of an array that is written; 0 for what is none.
+pub(crate) fn written_length(e: &RawExpr) -> u32
+    ensures { result ≡ spec.array_length (Some e.now) None }
+{
+    length_number(constant(e))
 }
 
 /// The length of an array: the one that is written, or that of the list; 0 where neither is there.
@@ -162,7 +167,7 @@ pub(crate) fn array_length(
     ensures { IfOk result (λ n. n ≡ spec.array_length length.now list.now) }
 {
     match length {
-        Some(e) => Ok(length_number(constant(e))),
+        Some(e) => Ok(written_length(e)),
         None => match list {
             Some(list) => match u32::try_from(list.len()) {
                 Ok(n) => Ok(n),

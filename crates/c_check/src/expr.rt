@@ -2,8 +2,9 @@
 
 ghost use Rattle.std.specs.Prelude.{◌≡◌, IfOk, OnOk, [], option_map, unwrap_or, length};
 ghost use Rattle.c_tree.specs.Constants as spec;
-ghost use Rattle.c_tree.specs.Naming.{optional};
-ghost use Rattle.c_tree.specs.Uses.{expr_uses, exprs_uses, optional_uses, constant_uses, length_uses, list_uses};
+ghost use Rattle.std.specs.Option.{option_map_or};
+ghost use Rattle.c_tree.specs.Naming.{optional, kept_numbers, shape_values};
+ghost use Rattle.c_tree.specs.Uses.{expr_uses, exprs_uses, optional_uses, constant_uses, length_uses, list_uses, constants_uses};
 ghost use Rattle.c_tree.specs.Scopes.{variable};
 ghost use Rattle.c_check.specs.Tables.{entity_of};
 ghost use Rattle.c_check.specs.Verdicts.{first_of, after_uses};
@@ -11,7 +12,7 @@ ghost use Rattle.c_check.specs.Verdicts.{first_of, after_uses};
 use crate::constants;
 use crate::names::{Entity, Names};
 use crate::verdict::Verdict;
-use c_tree::{BinOp, Expr, NoMemory, RawExpr, Ty, UnOp, Value};
+use c_tree::{BinOp, Expr, NoMemory, RawExpr, RawShape, Ty, UnOp, Value};
 use sqlite_items::{Boxed, Items};
 use std::alloc::Global;
 
@@ -192,5 +193,63 @@ pub(crate) fn count(list: &Option<Items<RawExpr>>) -> Option<usize>
     match list {
         None => None,
         Some(list) => Some(list.len()),
+    }
+}
+
+/// The numbers of a list of constants, converted to a type.
+#[tactic(auto, using(crate::proofs::Heard::heard))]
+fn constants(
+    alloc: Global,
+    names: &Names,
+    verdict: &mut Verdict,
+    ty: Ty,
+    list: &[RawExpr],
+) -> Result<Items<i64>, NoMemory>
+    ensures numbers { IfOk result (λ zs. zs ≡ kept_numbers ty list.now) }
+    ensures first { OnOk result (first_of verdict.new ≡ after_uses (first_of verdict.old) (constants_uses names.now list.now)) }
+{
+    let mut numbers = Items::new(alloc);
+    for e in list {
+        let value = constant(alloc, names, verdict, e)?;
+        numbers.push(constants::kept_number(ty, value))?;
+    }
+    Ok(numbers)
+}
+
+/// The number of a scalar's initialiser, converted to a type, if there is one.
+#[tactic(auto, using(crate::proofs::Heard::heard))]
+pub(crate) fn initial_number(
+    alloc: Global,
+    names: &Names,
+    verdict: &mut Verdict,
+    ty: Ty,
+    e: &Option<RawExpr>,
+) -> Result<Items<i64>, NoMemory>
+    ensures numbers { IfOk result (λ zs. zs ≡ shape_values ty (RawShape.Scalar e.now)) }
+    ensures first { OnOk result (first_of verdict.new ≡ after_uses (first_of verdict.old) (option_map_or (constant_uses names.now) e.now [])) }
+{
+    let mut numbers = Items::new(alloc);
+    if let Some(e) = e {
+        let value = constant(alloc, names, verdict, e)?;
+        numbers.push(constants::kept_number(ty, value))?;
+    }
+    Ok(numbers)
+}
+
+/// The numbers of an array's list, converted to a type, if there is one.
+#[tactic(auto, using(crate::proofs::Heard::heard))]
+pub(crate) fn initial_numbers(
+    alloc: Global,
+    names: &Names,
+    verdict: &mut Verdict,
+    ty: Ty,
+    list: &Option<Items<RawExpr>>,
+) -> Result<Items<i64>, NoMemory>
+    ensures numbers { IfOk result (λ zs. zs ≡ kept_numbers ty (unwrap_or list.now [])) }
+    ensures first { OnOk result (first_of verdict.new ≡ after_uses (first_of verdict.old) (constants_uses names.now (unwrap_or list.now []))) }
+{
+    match list {
+        None => Ok(Items::new(alloc)),
+        Some(list) => constants(alloc, names, verdict, ty, list.as_slice()),
     }
 }

@@ -82,11 +82,7 @@ pub(crate) fn is_true(v: Value) -> bool
 fn int_quotient(x: i32, y: i32) -> Option<Value>
     ensures { result ≡ spec.int_quotient x y }
 {
-    if y == 0 {
-        None
-    } else {
-        int(x.checked_div(y))
-    }
+    if y == 0 { None } else { int(x.checked_div(y)) }
 }
 
 fn sum(a: Value, b: Value) -> Option<Value>
@@ -274,7 +270,11 @@ fn shifted_left(a: Value, k: u32) -> Option<Value>
                 return None;
             }
             let product = (z as u64) << k;
-            if product < 2147483648 { Some(Value::Int(product as i32)) } else { None }
+            if product < 2147483648 {
+                Some(Value::Int(product as i32))
+            } else {
+                None
+            }
         }
         Value::Unsigned(n) => Some(Value::Unsigned(n.wrapping_shl(k))),
     }

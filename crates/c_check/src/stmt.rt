@@ -11,7 +11,9 @@ ghost use Rattle.c_check.specs.Walks.{scope_of, within, option_behind, option_us
 use crate::checker::Checker;
 use crate::expr;
 use crate::names::Entity;
-use c_tree::{NoMemory, Place, RawBound, RawExpr, RawPlace, RawStmt, RawTarget, Spot, Stmt, Target};
+use c_tree::{
+    NoMemory, Place, RawBound, RawExpr, RawPlace, RawStmt, RawTarget, Spot, Stmt, Target,
+};
 use sqlite_items::{Boxed, Items};
 
 /// The greatest bound of a loop.
@@ -103,9 +105,8 @@ impl<'a> Checker<'a> {
         let is_used = has_target(target);
         let target = self.target(target)?;
         let entity = self.names.entity(callee.name.as_slice());
-        self.verdict.called(
-            callee.at, entity, arguments.len(), is_used, self.func,
-        );
+        self.verdict
+            .called(callee.at, entity, arguments.len(), is_used, self.func);
         let arguments = expr::exprs(self.alloc, &self.names, &mut self.verdict, arguments)?;
         Ok(Stmt::Call(target, Entity::function_number(entity), arguments))
     }
@@ -180,7 +181,8 @@ impl<'a> Checker<'a> {
                 Ok(Stmt::Continue)
             }
             RawStmt::Return(at, e) => {
-                self.verdict.returned(*at, e.is_some(), self.returns.is_some());
+                self.verdict
+                    .returned(*at, e.is_some(), self.returns.is_some());
                 let e = expr::optional(self.alloc, &self.names, &mut self.verdict, e)?;
                 Ok(Stmt::Return(e))
             }

@@ -92,11 +92,13 @@ impl Verdict {
         match entity {
             None => self.refuse(Fault::NoName, at),
             Some(Entity::Variable { .. }) => self.refuse(Fault::Kind, at),
-            Some(Entity::Function {
-                number,
-                params,
-                result: returns,
-            }) => {
+            Some(
+                Entity::Function {
+                    number,
+                    params,
+                    result: returns,
+                },
+            ) => {
                 self.refuse_if(arguments != params, Fault::Arity, at);
                 self.refuse_if(is_used && returns.is_none(), Fault::NoValue, at);
                 self.refuse_if(caller <= number, Fault::LaterCall, at);
@@ -171,13 +173,7 @@ fn is_misread(indexed: bool, entity: Entity) -> bool
     ensures { result ≡ is_misread indexed (Some (entity_of entity)) }
 {
     match entity {
-        Entity::Variable { array, .. } => {
-            if array {
-                !indexed
-            } else {
-                indexed
-            }
-        }
+        Entity::Variable { array, .. } => { if array { !indexed } else { indexed } }
         Entity::Function { .. } => true,
     }
 }

@@ -1,0 +1,101 @@
+//! Checking a unit.
+
+ghost use Rattle.std.specs.Prelude.{◌≡◌, IfOk, IfErr, OnOk, map, Some, None};
+ghost use Rattle.std.specs.Option.{option_copied};
+ghost use Rattle.c_tree.specs.Naming.{program_of};
+ghost use Rattle.c_tree.specs.Refusals.{Typed, IsRefused, wide, no_entries, too_many_inputs};
+ghost use Rattle.c_check.specs.Verdicts.{first_of, after_all};
+ghost use Rattle.c_check.specs.Answers.{told};
+
+use crate::fault::{CheckFault, Fault};
+use crate::unit::UnitChecker;
+use crate::verdict::Verdict;
+use crate::{entry, spans};
+use c_tree::{NoMemory, Program, RawTop, Unit};
+use std::alloc::Global;
+
+/// The greatest span of a function.
+const MAX_SPAN: u128 = 18_446_744_073_709_551_616;
+
+/// The program of a unit, where no fault stands: the unit with its names replaced by numbers. Of the faults the first of
+/// `CheckFault` is told, and of that one the smallest place; want of memory may be told before any. The entry is the function
+/// that runs begin with.
+pub fn check(alloc: Global, unit: Unit, entry: &str) -> Result<Program, CheckFault>
+    ensures program { IfOk result (Typed unit entry.now) }
+    ensures refused { IfErr result (λ e. IfSome (told e) (IsRefused unit entry.now)) }
+{
+    let entry = entry.as_bytes();
+    let tops = unit.tops.as_slice();
+    let (program, mut verdict) = named(alloc, tops, entry)?;
+    ask_of_entry(&unit, entry, &mut verdict);
+    ask_of_inputs(&unit, entry, &mut verdict);
+    let spans = spans::spans(alloc, program.funcs.as_slice())?;
+    ask_of_spans(&spans, tops, &mut verdict);
+    match verdict.first {
+        None => Ok(program),
+        Some(refusal) => Err(refusal.into()),
+    }
+}
+
+// The program, and what is wrong with single uses.
+fn named(alloc: Global, tops: &[RawTop], entry: &[u8]) -> Result<(Program, Verdict), NoMemory> {
+    let mut walk = UnitChecker::new(alloc);
+    walk.know(tops)?;
+    walk.tops(tops)?;
+    let UnitChecker {
+        checker,
+        globals,
+        funcs,
+    } = walk;
+    let verdict = checker.verdict;
+    let number = entry::entry_number(funcs.as_slice(), entry).unwrap_or(0);
+    match u32::try_from(number) {
+        Ok(entry) => Ok((
+            Program {
+                globals,
+                funcs,
+                entry,
+            },
+            verdict,
+        )),
+        Err(_) => Err(NoMemory),
+    }
+}
+
+// No function has the entry's name.
+fn ask_of_entry(unit: &Unit, entry: &[u8], verdict: &mut Verdict)
+    ensures { first_of verdict.new ≡ after_all (first_of verdict.old) (no_entries unit.now entry.now) }
+{
+    let is_missing = entry::func_named(unit.tops.as_slice(), entry).is_none();
+    verdict.refuse_if(is_missing, Fault::NoEntry, unit.end);
+}
+
+// A 65th input number.
+fn ask_of_inputs(unit: &Unit, entry: &[u8], verdict: &mut Verdict)
+    ensures { first_of verdict.new ≡ after_all (first_of verdict.old) (too_many_inputs unit.now entry.now) }
+{
+    let tops = unit.tops.as_slice();
+    let extra = match entry::func_named(tops, entry) {
+        None => entry::extra_input(&[], tops),
+        Some(func) => entry::extra_input(func.params.as_slice(), tops),
+    };
+    if let Some(at) = extra {
+        verdict.refuse(Fault::Inputs, at);
+    }
+}
+
+// A function whose span is above 2^64.
+fn ask_of_spans(spans: &[u128], tops: &[RawTop], verdict: &mut Verdict)
+    ensures { first_of verdict.new ≡ after_all (first_of verdict.old) (wide spans.now tops.now) }
+{
+    let mut number = 0;
+    for top in tops {
+        if let RawTop::Func(func) = top {
+            let Some(span) = spans.get(number) else {
+                return;
+            };
+            verdict.refuse_if(*span > MAX_SPAN, Fault::Span, func.spot.at);
+            number += 1;
+        }
+    }
+}

@@ -1,0 +1,293 @@
+//! The walk over a unit: its globals and its functions.
+
+ghost use Rattle.std.specs.Prelude.{◌≡◌, ◌++◌, ◌∷◌, [], None, IfOk, OnOk, length, is_some};
+ghost use Rattle.c_tree.specs.Scopes.{Function};
+ghost use Rattle.c_check.specs.Tables.{entity_of};
+ghost use Rattle.c_tree.specs.Naming.{known_funcs, behind_top, with_global, func_of, funcs_of, globals_of, shape_values};
+ghost use Rattle.c_tree.specs.Uses.{declared_at, top_uses, tops_uses, global_uses, outer_uses, func_uses};
+ghost use Rattle.c_tree.specs.Constants.{shape_length};
+ghost use Rattle.c_check.specs.Verdicts.{first_of, after_use, after_uses};
+ghost use Rattle.c_check.specs.Files.{file_of, top_funcs, top_globals, outer_length};
+
+use crate::checker::{Body, Checker};
+use crate::names::{Entity, Names};
+use crate::verdict::Verdict;
+use crate::{constants, expr};
+use c_tree::{
+    Func, Global as Outside, Name, NoMemory, RawExpr, RawFunc, RawShape, RawTop, Spot, Ty, Var,
+};
+use sqlite_items::Items;
+use std::alloc::Global;
+
+/// The depth of the scope that has the functions of the whole unit.
+const WHOLE_UNIT: usize = 0;
+/// The depth of file scope.
+const FILE_SCOPE: usize = 1;
+
+/// Where the walk over a unit stands, and the globals and functions so far.
+#[derive(Drop)]
+pub(crate) struct UnitChecker<'a> {
+    pub(crate) checker: Checker<'a>,
+    pub(crate) globals: Items<Outside>,
+    pub(crate) funcs: Items<Func>,
+}
+
+// A number of a global or of a function.
+fn number_of(count: usize) -> Result<u32, NoMemory>
+    ensures { IfOk result (λ n. n ≡ count) }
+{
+    match u32::try_from(count) {
+        Ok(number) => Ok(number),
+        Err(_) => Err(NoMemory),
+    }
+}
+
+impl<'a> UnitChecker<'a> {
+    /// Before the first declaration, with no name known.
+    pub(crate) fn new(alloc: Global) -> Self
+        ensures names { result.checker.names ≡ [] }
+        ensures globals { result.globals ≡ [] }
+        ensures funcs { result.funcs ≡ [] }
+        ensures first { first_of result.checker.verdict ≡ None }
+    {
+        let checker = Checker {
+            alloc,
+            names: Names::new(alloc),
+            depth: FILE_SCOPE,
+            locals: Items::new(alloc),
+            func: 0,
+            returns: None,
+            looped: false,
+            verdict: Verdict::new(),
+        };
+        UnitChecker {
+            checker,
+            globals: Items::new(alloc),
+            funcs: Items::new(alloc),
+        }
+    }
+
+    /// Lets the functions be known in the whole unit.
+    pub(crate) fn know(&mut self, tops: &'a [RawTop]) -> Result<(), NoMemory>
+        requires { self.old.checker.names ≡ [] }
+        ensures names { OnOk result (self.new.checker.names ≡ known_funcs 0 tops.now) }
+        ensures globals { self.new.globals ≡ self.old.globals }
+        ensures funcs { self.new.funcs ≡ self.old.funcs }
+        ensures first { first_of self.new.checker.verdict ≡ first_of self.old.checker.verdict }
+    {
+        let mut number = 0;
+        for top in tops {
+            if let RawTop::Func(func) = top {
+                let entity = function(number, func);
+                let name = func.spot.name.as_slice();
+                self.checker.names.declare(name, WHOLE_UNIT, entity)?;
+                match number.checked_add(1) {
+                    Some(next) => number = next,
+                    None => return Err(NoMemory),
+                }
+            }
+        }
+        Ok(())
+    }
+
+    // Declares a global.
+    fn declare(&mut self, constant: bool, x: &'a Spot, array: bool) -> Result<(), NoMemory>
+        ensures names { OnOk result (self.new.checker.names ≡ (with_global (file_of self.old) constant x.now.name array).known) }
+        ensures globals { self.new.globals ≡ self.old.globals }
+        ensures funcs { self.new.funcs ≡ self.old.funcs }
+        ensures first { OnOk result (first_of self.new.checker.verdict ≡ after_use (first_of self.old.checker.verdict) (declared_at self.old.checker.names 1 x.now)) }
+    {
+        let name = x.name.as_slice();
+        let again = self.checker.names.is_known_at(FILE_SCOPE, name);
+        self.checker.verdict.declared(x.at, again);
+        let number = number_of(self.globals.len())?;
+        let entity = Entity::Variable {
+            var: Var::Global(number),
+            array,
+            constant,
+        };
+        self.checker.names.declare(name, FILE_SCOPE, entity)
+    }
+
+    // Keeps a global that is declared.
+    fn keep(
+        &mut self,
+        ty: Ty,
+        x: &Spot,
+        size: Option<u32>,
+        outer: bool,
+        values: Items<i64>,
+    ) -> Result<(), NoMemory>
+        ensures names { self.new.checker ≡ self.old.checker }
+        ensures globals { OnOk result (self.new.globals ≡ self.old.globals ++ (record { name = x.now.name; ty = ty; length = size; outer = outer; values = values }) ∷ []) }
+        ensures funcs { self.new.funcs ≡ self.old.funcs }
+    {
+        let name = Name::from_slice(self.checker.alloc, x.name.as_slice())?;
+        self.globals.push(Outside {
+            name,
+            ty,
+            length: size,
+            outer,
+            values,
+        })?;
+        Ok(())
+    }
+
+    // An extern variable.
+    #[tactic(auto, using(crate::proofs::Heard::heard))]
+    fn outer(
+        &mut self,
+        constant: bool,
+        ty: Ty,
+        x: &'a Spot,
+        length: &Option<RawExpr>,
+    ) -> Result<(), NoMemory>
+        ensures file { OnOk result (file_of self.new ≡ behind_top (file_of self.old) (RawTop.Outer constant ty x.now length.now)) }
+        ensures globals { OnOk result (self.new.globals ≡ self.old.globals ++ top_globals (RawTop.Outer constant ty x.now length.now)) }
+        ensures funcs { OnOk result (self.new.funcs ≡ self.old.funcs) }
+        ensures first { OnOk result (first_of self.new.checker.verdict ≡ after_uses (first_of self.old.checker.verdict) (outer_uses (file_of self.old) x.now length.now)) }
+    {
+        let alloc = self.checker.alloc;
+        expr::length(
+            alloc,
+            &self.checker.names,
+            &mut self.checker.verdict,
+            length,
+        )?;
+        let size = outer_length(length);
+        self.declare(constant, x, size.is_some())?;
+        if let Some(size) = size {
+            self.checker.verdict.sized(x.at, size, None, false);
+        }
+        self.keep(ty, x, size, true, Items::new(alloc))
+    }
+
+    // A variable of file scope that is not extern.
+    #[tactic(auto, using(crate::proofs::Heard::heard))]
+    fn global(
+        &mut self,
+        constant: bool,
+        ty: Ty,
+        x: &'a Spot,
+        shape: &RawShape,
+    ) -> Result<(), NoMemory>
+        ensures names { OnOk result (self.new.checker.names ≡ (with_global (file_of self.old) constant x.now.name (is_some (shape_length shape.now))).known) }
+        ensures globals { OnOk result (self.new.globals ≡ self.old.globals ++ (record { name = x.now.name; ty = ty; length = shape_length shape.now; outer = false; values = shape_values ty shape.now }) ∷ []) }
+        ensures funcs { OnOk result (self.new.funcs ≡ self.old.funcs) }
+        ensures first { OnOk result (first_of self.new.checker.verdict ≡ after_uses (first_of self.old.checker.verdict) (global_uses (file_of self.old) constant x.now shape.now)) }
+    {
+        let alloc = self.checker.alloc;
+        match shape {
+            RawShape::Scalar(e) => {
+                self.declare(constant, x, false)?;
+                let names = &self.checker.names;
+                let values = expr::initial_number(alloc, names, &mut self.checker.verdict, ty, e)?;
+                self.keep(ty, x, None, false, values)
+            }
+            RawShape::Array(length, list) => {
+                expr::length(
+                    alloc,
+                    &self.checker.names,
+                    &mut self.checker.verdict,
+                    length,
+                )?;
+                let size = constants::array_length(length, list)?;
+                self.declare(constant, x, true)?;
+                self.checker
+                    .verdict
+                    .sized(x.at, size, expr::count(list), false);
+                let names = &self.checker.names;
+                let values = expr::initial_numbers(
+                    alloc,
+                    names,
+                    &mut self.checker.verdict,
+                    ty,
+                    list,
+                )?;
+                self.keep(ty, x, Some(size), false, values)
+            }
+        }
+    }
+
+    // A function.
+    #[tactic(auto, using(crate::proofs::Heard::heard))]
+    fn func(&mut self, func: &'a RawFunc) -> Result<(), NoMemory>
+        ensures file { OnOk result (file_of self.new ≡ behind_top (file_of self.old) (RawTop.Func func.now)) }
+        ensures globals { OnOk result (self.new.globals ≡ self.old.globals) }
+        ensures funcs { OnOk result (self.new.funcs ≡ self.old.funcs ++ func_of (file_of self.old) func.now ∷ []) }
+        ensures first { OnOk result (first_of self.new.checker.verdict ≡ after_uses (first_of self.old.checker.verdict) (func_uses (file_of self.old) func.now)) }
+    {
+        let name = func.spot.name.as_slice();
+        let again = self.checker.names.is_known_at(FILE_SCOPE, name);
+        self.checker.verdict.declared(func.spot.at, again);
+        let number = number_of(self.funcs.len())?;
+        let entity = function(number, func);
+        self.checker.names.declare(name, FILE_SCOPE, entity)?;
+        let body = self.checker.function(number, func)?;
+        let func = finished(self.checker.alloc, func, body)?;
+        self.funcs.push(func)?;
+        Ok(())
+    }
+
+    // A declaration at file scope.
+    fn top(&mut self, top: &'a RawTop) -> Result<(), NoMemory>
+        ensures file { OnOk result (file_of self.new ≡ behind_top (file_of self.old) top.now) }
+        ensures globals { OnOk result (self.new.globals ≡ self.old.globals ++ top_globals top.now) }
+        ensures funcs { OnOk result (self.new.funcs ≡ self.old.funcs ++ top_funcs (file_of self.old) top.now) }
+        ensures first { OnOk result (first_of self.new.checker.verdict ≡ after_uses (first_of self.old.checker.verdict) (top_uses (file_of self.old) top.now)) }
+    {
+        match top {
+            RawTop::Outer(constant, ty, x, length) => self.outer(*constant, *ty, x, length),
+            RawTop::Global(_, constant, ty, x, shape) => self.global(*constant, *ty, x, shape),
+            RawTop::Func(func) => self.func(func),
+        }
+    }
+
+    /// The declarations at file scope in order.
+    pub(crate) fn tops(&mut self, tops: &'a [RawTop]) -> Result<(), NoMemory>
+        ensures globals { OnOk result (self.new.globals ≡ self.old.globals ++ globals_of tops.now) }
+        ensures funcs { OnOk result (self.new.funcs ≡ self.old.funcs ++ funcs_of (file_of self.old) tops.now) }
+        ensures first { OnOk result (first_of self.new.checker.verdict ≡ after_uses (first_of self.old.checker.verdict) (tops_uses (file_of self.old) tops.now)) }
+    {
+        for top in tops {
+            self.top(top)?;
+        }
+        Ok(())
+    }
+}
+
+// What a function's name stands for.
+fn function(number: u32, func: &RawFunc) -> Entity
+    ensures { entity_of result ≡ Function number (length func.now.params) func.now.result }
+{
+    Entity::Function {
+        number,
+        params: func.params.len(),
+        result: func.result,
+    }
+}
+
+// The length of an extern variable, if it is an array.
+fn outer_length(length: &Option<RawExpr>) -> Option<u32>
+    ensures { result ≡ outer_length length.now }
+{
+    match length {
+        None => None,
+        Some(e) => Some(constants::written_length(e)),
+    }
+}
+
+// A function whose body has been gone through.
+fn finished(alloc: Global, func: &RawFunc, body: Body) -> Result<Func, NoMemory>
+    ensures { IfOk result (λ f. f ≡ (record { name = func.now.spot.name; result = func.now.result; params = length func.now.params; locals = body.locals; body = body.stmts })) }
+{
+    let params = number_of(func.params.len())?;
+    let Body { locals, stmts } = body;
+    Ok(Func {
+        name: Name::from_slice(alloc, func.spot.name.as_slice())?,
+        result: func.result,
+        params,
+        locals,
+        body: stmts,
+    })
+}
