@@ -7,3 +7,5 @@ pub mod StmtLayers
 pub mod Growth
 pub mod ForLoops
 pub mod FileLayers
+pub mod CappedSpans
+pub mod FirstFault

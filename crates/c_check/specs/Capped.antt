@@ -1,15 +1,10 @@
 -- Spans up to the greatest that is told apart, one more than 2^64.
-use Rattle.std.specs.Prelude.{ℕ, ◌^◌, ◌+◌, min, false, List, [], ◌∷◌, ◌++◌, Option, Some, None}
-use Rattle.c_tree.specs.declared.tree.Stmt.{Stmt}
+use Rattle.std.specs.Prelude.{ℕ, ◌^◌, ◌+◌, min, List, [], ◌∷◌, ◌++◌}
 use Rattle.c_tree.specs.declared.program.Func.{Func}
-use Rattle.c_tree.specs.Spans.{span, func_span}
+use Rattle.c_tree.specs.Spans.{func_span}
 
 unfoldable pub capped : ℕ → ℕ
 capped n = min n (2 ^ 64 + 1)
-
-abbrev pub option_span : List ℕ → ℕ → Option Stmt → ℕ
-option_span ss k None = 0
-option_span ss k (Some s) = span ss k s false
 
 -- of each function, over those above it
 abbrev pub capped_spans : List ℕ → List Func → List ℕ

@@ -22,3 +22,7 @@ top_globals t = globals_of (t ∷ [])
 -- the length of an extern variable
 abbrev pub outer_length : Option RawExpr → Option ℕ
 outer_length e = option_map (λ l. array_length (Some l) None) e
+
+abbrev pub func_count : RawTop → ℕ
+func_count (top.Func g) = 1
+func_count t = 0

@@ -1,17 +1,18 @@
 //! Checking a unit.
 
-ghost use Rattle.std.specs.Prelude.{◌≡◌, IfOk, IfErr, OnOk, map, Some, None};
-ghost use Rattle.std.specs.Option.{option_copied};
-ghost use Rattle.c_tree.specs.Naming.{program_of};
-ghost use Rattle.c_tree.specs.Refusals.{Typed, IsRefused, wide, no_entries, too_many_inputs};
-ghost use Rattle.c_check.specs.Verdicts.{first_of, after_all};
+ghost use Rattle.std.specs.Prelude.{◌≡◌, IfOk, IfErr, IfSome, None, unwrap_or};
+ghost use Rattle.c_tree.specs.Naming.{program_of, entry_number};
+ghost use Rattle.c_tree.specs.Uses.{uses};
+ghost use Rattle.c_tree.specs.Refusals.{Typed, IsRefused, faults, wide, no_entries, too_many_inputs};
+ghost use Rattle.c_check.specs.Verdicts.{first_of, after_all, after_uses};
 ghost use Rattle.c_check.specs.Answers.{told};
 
+use crate::checker::Checker;
 use crate::fault::{CheckFault, Fault};
 use crate::unit::UnitChecker;
 use crate::verdict::Verdict;
 use crate::{entry, spans};
-use c_tree::{NoMemory, Program, RawTop, Unit};
+use c_tree::{Func, NoMemory, Program, RawTop, Unit};
 use std::alloc::Global;
 
 /// The greatest span of a function.
@@ -24,40 +25,59 @@ pub fn check(alloc: Global, unit: Unit, entry: &str) -> Result<Program, CheckFau
     ensures program { IfOk result (Typed unit entry.now) }
     ensures refused { IfErr result (λ e. IfSome (told e) (IsRefused unit entry.now)) }
 {
-    let entry = entry.as_bytes();
-    let tops = unit.tops.as_slice();
-    let (program, mut verdict) = named(alloc, tops, entry)?;
-    ask_of_entry(&unit, entry, &mut verdict);
-    ask_of_inputs(&unit, entry, &mut verdict);
-    let spans = spans::spans(alloc, program.funcs.as_slice())?;
-    ask_of_spans(&spans, tops, &mut verdict);
+    let (program, verdict) = judged(alloc, &unit, entry.as_bytes())?;
     match verdict.first {
         None => Ok(program),
         Some(refusal) => Err(refusal.into()),
     }
 }
 
-// The program, and what is wrong with single uses.
-fn named(alloc: Global, tops: &[RawTop], entry: &[u8]) -> Result<(Program, Verdict), NoMemory> {
-    let mut walk = UnitChecker::new(alloc);
-    walk.know(tops)?;
+// The program of a unit, and the first of its faults.
+fn judged(alloc: Global, unit: &Unit, entry: &[u8]) -> Result<(Program, Verdict), NoMemory>
+    ensures program { IfOk result (λ r. r.0 ≡ program_of unit.now entry.now) }
+    ensures first { IfOk result (λ r. first_of r.1 ≡ after_all None (faults unit.now entry.now)) }
+{
+    let (program, mut verdict) = named(alloc, unit, entry)?;
+    ask_of_entry(unit, entry, &mut verdict);
+    ask_of_inputs(unit, entry, &mut verdict);
+    let spans = spans::spans(alloc, program.funcs.as_slice())?;
+    ask_of_spans(&spans, unit.tops.as_slice(), &mut verdict);
+    Ok((program, verdict))
+}
+
+// The program of a unit, and the first fault of its single uses.
+fn named(alloc: Global, unit: &Unit, entry: &[u8]) -> Result<(Program, Verdict), NoMemory>
+    ensures program { IfOk result (λ r. r.0 ≡ program_of unit.now entry.now) }
+    ensures first { IfOk result (λ r. first_of r.1 ≡ after_uses None (uses unit.now)) }
+{
+    let tops = unit.tops.as_slice();
+    let mut walk = UnitChecker::start(alloc, tops)?;
     walk.tops(tops)?;
     let UnitChecker {
         checker,
         globals,
         funcs,
     } = walk;
-    let verdict = checker.verdict;
-    let number = entry::entry_number(funcs.as_slice(), entry).unwrap_or(0);
+    let Checker { verdict, .. } = checker;
+    let entry = first_entry(funcs.as_slice(), entry)?;
+    let program = Program {
+        globals,
+        funcs,
+        entry,
+    };
+    Ok((program, verdict))
+}
+
+// The number of the function of this name; 0 where there is none.
+fn first_entry(funcs: &[Func], name: &[u8]) -> Result<u32, NoMemory>
+    ensures { IfOk result (λ n. n ≡ unwrap_or (entry_number funcs.now name.now) 0) }
+{
+    let number = match entry::entry_number(funcs, name) {
+        Some(number) => number,
+        None => 0,
+    };
     match u32::try_from(number) {
-        Ok(entry) => Ok((
-            Program {
-                globals,
-                funcs,
-                entry,
-            },
-            verdict,
-        )),
+        Ok(number) => Ok(number),
         Err(_) => Err(NoMemory),
     }
 }

@@ -2,8 +2,9 @@
 
 ghost use Rattle.std.specs.Prelude.{◌≡◌, ◌+◌, ◌*◌, [], map, IfOk};
 ghost use Rattle.c_tree.specs.Blocks.{is_simple};
+ghost use Rattle.c_tree.specs.Statements.{held};
 ghost use Rattle.c_tree.specs.Spans.{span, list_span, func_span, span_at, begun_span};
-ghost use Rattle.c_check.specs.Capped.{capped, capped_spans, option_span};
+ghost use Rattle.c_check.specs.Capped.{capped, capped_spans};
 
 use c_tree::{Func, NoMemory, Stmt};
 use sqlite_items::Boxed;
@@ -76,7 +77,7 @@ fn list_span(above: &[u128], k: u128, stmts: &[Stmt]) -> u128
 
 #[cycle(spans)]
 fn held_span(above: &[u128], k: u128, stmt: &Option<Boxed<Stmt>>) -> u128
-    ensures { result ≡ capped (option_span above.now k stmt.now) }
+    ensures { result ≡ capped (list_span above.now k (held stmt.now) false) }
 {
     match stmt {
         None => 0,
@@ -85,6 +86,7 @@ fn held_span(above: &[u128], k: u128, stmt: &Option<Boxed<Stmt>>) -> u128
 }
 
 #[cycle(spans)]
+#[tactic(auto, using(crate::proofs::CappedSpans::capped_layers))]
 fn span(above: &[u128], k: u128, stmt: &Stmt, run: bool) -> u128
     ensures { result ≡ capped (span above.now k stmt.now run) }
 {

@@ -1,13 +1,13 @@
 //! The walk over a unit: its globals and its functions.
 
-ghost use Rattle.std.specs.Prelude.{◌≡◌, ◌++◌, ◌∷◌, [], None, IfOk, OnOk, length, is_some};
+ghost use Rattle.std.specs.Prelude.{◌≡◌, ◌+◌, ◌++◌, ◌∷◌, [], None, IfOk, OnOk, length, is_some};
 ghost use Rattle.c_tree.specs.Scopes.{Function};
 ghost use Rattle.c_check.specs.Tables.{entity_of};
-ghost use Rattle.c_tree.specs.Naming.{known_funcs, behind_top, with_global, func_of, funcs_of, globals_of, shape_values};
+ghost use Rattle.c_tree.specs.Naming.{started, known_funcs, behind_top, with_global, func_of, funcs_of, globals_of, shape_values};
 ghost use Rattle.c_tree.specs.Uses.{declared_at, top_uses, tops_uses, global_uses, outer_uses, func_uses};
 ghost use Rattle.c_tree.specs.Constants.{shape_length};
 ghost use Rattle.c_check.specs.Verdicts.{first_of, after_use, after_uses};
-ghost use Rattle.c_check.specs.Files.{file_of, top_funcs, top_globals, outer_length};
+ghost use Rattle.c_check.specs.Files.{file_of, top_funcs, top_globals, outer_length, func_count};
 
 use crate::checker::{Body, Checker};
 use crate::names::{Entity, Names};
@@ -43,16 +43,18 @@ fn number_of(count: usize) -> Result<u32, NoMemory>
 }
 
 impl<'a> UnitChecker<'a> {
-    /// Before the first declaration, with no name known.
-    pub(crate) fn new(alloc: Global) -> Self
-        ensures names { result.checker.names ≡ [] }
-        ensures globals { result.globals ≡ [] }
-        ensures funcs { result.funcs ≡ [] }
-        ensures first { first_of result.checker.verdict ≡ None }
+    /// Before the first declaration of a unit, whose functions are known in the whole of it.
+    pub(crate) fn start(alloc: Global, tops: &'a [RawTop]) -> Result<Self, NoMemory>
+        ensures file { IfOk result (λ u. file_of u ≡ started tops.now) }
+        ensures globals { IfOk result (λ u. u.globals ≡ []) }
+        ensures funcs { IfOk result (λ u. u.funcs ≡ []) }
+        ensures first { IfOk result (λ u. first_of u.checker.verdict ≡ None) }
     {
+        let mut names = Names::new(alloc);
+        know(&mut names, tops)?;
         let checker = Checker {
             alloc,
-            names: Names::new(alloc),
+            names,
             depth: FILE_SCOPE,
             locals: Items::new(alloc),
             func: 0,
@@ -60,34 +62,11 @@ impl<'a> UnitChecker<'a> {
             looped: false,
             verdict: Verdict::new(),
         };
-        UnitChecker {
+        Ok(UnitChecker {
             checker,
             globals: Items::new(alloc),
             funcs: Items::new(alloc),
-        }
-    }
-
-    /// Lets the functions be known in the whole unit.
-    pub(crate) fn know(&mut self, tops: &'a [RawTop]) -> Result<(), NoMemory>
-        requires { self.old.checker.names ≡ [] }
-        ensures names { OnOk result (self.new.checker.names ≡ known_funcs 0 tops.now) }
-        ensures globals { self.new.globals ≡ self.old.globals }
-        ensures funcs { self.new.funcs ≡ self.old.funcs }
-        ensures first { first_of self.new.checker.verdict ≡ first_of self.old.checker.verdict }
-    {
-        let mut number = 0;
-        for top in tops {
-            if let RawTop::Func(func) = top {
-                let entity = function(number, func);
-                let name = func.spot.name.as_slice();
-                self.checker.names.declare(name, WHOLE_UNIT, entity)?;
-                match number.checked_add(1) {
-                    Some(next) => number = next,
-                    None => return Err(NoMemory),
-                }
-            }
-        }
-        Ok(())
+        })
     }
 
     // Declares a global.
@@ -253,6 +232,36 @@ impl<'a> UnitChecker<'a> {
             self.top(top)?;
         }
         Ok(())
+    }
+}
+
+// Lets the functions be known in the whole unit.
+fn know<'a>(names: &mut Names<'a>, tops: &'a [RawTop]) -> Result<(), NoMemory>
+    ensures { OnOk result (names.new ≡ names.old ++ known_funcs 0 tops.now) }
+{
+    let mut number = 0;
+    for top in tops {
+        number = know_top(names, number, top)?;
+    }
+    Ok(())
+}
+
+// Lets a function be known in the whole unit, and answers the number of the next.
+fn know_top<'a>(names: &mut Names<'a>, number: u32, top: &'a RawTop) -> Result<u32, NoMemory>
+    ensures names { OnOk result (names.new ≡ names.old ++ known_funcs number (top.now ∷ [])) }
+    ensures next { IfOk result (λ n. n ≡ number + func_count top.now) }
+{
+    match top {
+        RawTop::Outer(_, _, _, _) => Ok(number),
+        RawTop::Global(_, _, _, _, _) => Ok(number),
+        RawTop::Func(func) => {
+            let name = func.spot.name.as_slice();
+            names.declare(name, WHOLE_UNIT, function(number, func))?;
+            match number.checked_add(1) {
+                Some(next) => Ok(next),
+                None => Err(NoMemory),
+            }
+        }
     }
 }
 
