@@ -24,7 +24,10 @@ ge_mul a (suc m) h = omega arith
 
 -- one factor is at the cap
 mul_past : (a b c : ℕ) → 1 ≤ c → c ≤ a → min (c * min b c) c ≡ min (a * b) c
-mul_past a zero c h ca = omega arith
+mul_past a zero c h ca =
+    let none : min 0 c ≡ 0 = omega arith in
+    let left : min (c * 0) c ≡ min (a * 0) c = omega arith in
+    ap (λ n. min (c * n) c) none ∙ left
 mul_past a (suc b) c h ca =
     let m = ge_mul a (suc b) (omega arith) in
     let n = ge_mul c (min (suc b) c) (omega arith) in
@@ -57,16 +60,28 @@ pub capped-mul : (a b : ℕ) → capped (capped a * capped b) ≡ capped (a * b)
 unfolding capped
 capped-mul a b = min_mul a b (2 ^ 64 + 1) (lit≤ tt)
 
+pub capped-right : (a b : ℕ) → capped (a + capped b) ≡ capped (a + b)
+unfolding capped
+capped-right a b = omega arith
+
 pub capped-twice : (a : ℕ) → capped (capped a) ≡ capped a
 unfolding capped
 capped-twice a = omega arith
 
--- numbers that are the same up to the cap
-pub add_alike : {a b c d : ℕ} → capped a ≡ capped c → capped b ≡ capped d → capped (a + b) ≡ capped (c + d)
-add_alike {a} {b} {c} {d} e f = sym (capped-add a b) ∙ (λ i. capped (e i + f i)) ∙ capped-add c d
+min_step : (t n rest c : ℕ) → min (min (t + min n c) c + rest) c ≡ min (t + (n + rest)) c
+min_step t n rest c = omega arith
 
-pub mul_alike : {a b c d : ℕ} → capped a ≡ capped c → capped b ≡ capped d → capped (a * b) ≡ capped (c * d)
-mul_alike {a} {b} {c} {d} e f = sym (capped-mul a b) ∙ (λ i. capped (e i * f i)) ∙ capped-mul c d
+-- the step of a sum that is cut at the cap
+pub capped-step : (t n rest : ℕ) → capped (capped (t + capped n) + rest) ≡ capped (t + (n + rest))
+unfolding capped
+capped-step t n rest = min_step t n rest (2 ^ 64 + 1)
+
+-- numbers that are the same up to the cap
+pub add_alike : (a b c d : ℕ) → capped a ≡ capped c → capped b ≡ capped d → capped (a + b) ≡ capped (c + d)
+add_alike a b c d e f = sym (capped-add a b) ∙ (λ i. capped (e i + f i)) ∙ capped-add c d
+
+pub mul_alike : (a b c d : ℕ) → capped a ≡ capped c → capped b ≡ capped d → capped (a * b) ≡ capped (c * d)
+mul_alike a b c d e f = sym (capped-mul a b) ∙ (λ i. capped (e i * f i)) ∙ capped-mul c d
 
 -- ---- spans
 
@@ -86,24 +101,24 @@ mutual
   span_alike ss ts k l h e (Scalar n x) run = begun_alike k l run e
   span_alike ss ts k l h e (Array n xs) run = begun_alike k l run e
   span_alike ss ts k l h e (Assign p op x) run = begun_alike k l run e
-  span_alike ss ts k l h e (Call t g xs) run = add_alike e (mul_alike e (h g))
+  span_alike ss ts k l h e (Call t g xs) run = add_alike _ _ _ _ e (mul_alike _ _ _ _ e (h g))
   span_alike ss ts k l h e Break run = e
   span_alike ss ts k l h e Continue run = e
   span_alike ss ts k l h e (Return x) run = e
   span_alike ss ts k l h e (If' c a x b y) run =
-      add_alike (add_alike e (row_alike ss ts k l h e x false)) (row_alike ss ts k l h e y false)
+      add_alike _ _ _ _ (add_alike _ _ _ _ e (row_alike ss ts k l h e x false)) (row_alike ss ts k l h e y false)
   span_alike ss ts k l h e (While' b c a x) run =
-      add_alike (mul_alike e refl) (row_alike ss ts (k * b) (l * b) h (mul_alike e refl) x false)
+      add_alike _ _ _ _ (mul_alike _ _ _ _ e refl) (row_alike ss ts (k * b) (l * b) h (mul_alike _ _ _ _ e refl) x false)
   span_alike ss ts k l h e (Do' b a x c) run =
-      add_alike (row_alike ss ts (k * b) (l * b) h (mul_alike e refl) x false) (mul_alike e refl)
+      add_alike _ _ _ _ (row_alike ss ts (k * b) (l * b) h (mul_alike _ _ _ _ e refl) x false) (mul_alike _ _ _ _ e refl)
   span_alike ss ts k l h e (For' b i c j a x) run =
-      add_alike (add_alike (add_alike (held_alike ss ts k l h e i) (mul_alike e refl)) (held_alike ss ts (k * b) (l * b) h (mul_alike e refl) j)) (row_alike ss ts (k * b) (l * b) h (mul_alike e refl) x false)
+      add_alike _ _ _ _ (add_alike _ _ _ _ (add_alike _ _ _ _ (held_alike ss ts k l h e i) (mul_alike _ _ _ _ e refl)) (held_alike ss ts (k * b) (l * b) h (mul_alike _ _ _ _ e refl) j)) (row_alike ss ts (k * b) (l * b) h (mul_alike _ _ _ _ e refl) x false)
   span_alike ss ts k l h e (Group' a x) run = row_alike ss ts k l h e x false
 
   row_alike : {m : _} (ss ts : List ℕ) (k l : ℕ) → Alike ss ts → capped k ≡ capped l → (x : Row_of-Stmt m) (run : Bool) → capped (row_span ss k x run) ≡ capped (row_span ts l x run)
   row_alike ss ts k l h e end_of-Stmt run = refl
   row_alike ss ts k l h e (more_of-Stmt s rest) run =
-      add_alike (span_alike ss ts k l h e s run) (row_alike ss ts k l h e rest (is_simple s))
+      add_alike _ _ _ _ (span_alike ss ts k l h e s run) (row_alike ss ts k l h e rest (is_simple s))
 
   held_alike : (ss ts : List ℕ) (k l : ℕ) → Alike ss ts → capped k ≡ capped l → (x : Held-Stmt-For-1) → capped (held_span ss k x) ≡ capped (held_span ts l x)
   held_alike ss ts k l h e None' = refl
@@ -111,7 +126,7 @@ mutual
 
 pub list_alike : (ss ts : List ℕ) (k l : ℕ) → Alike ss ts → capped k ≡ capped l → (xs : List Stmt) (run : Bool) → capped (list_span ss k xs run) ≡ capped (list_span ts l xs run)
 list_alike ss ts k l h e [] run = refl
-list_alike ss ts k l h e (x ∷ xs) run = add_alike (span_alike ss ts k l h e x run) (list_alike ss ts k l h e xs (is_simple x))
+list_alike ss ts k l h e (x ∷ xs) run = add_alike _ _ _ _ (span_alike ss ts k l h e x run) (list_alike ss ts k l h e xs (is_simple x))
 
 -- at a capped scale
 pub capped-list : (ss : List ℕ) (k : ℕ) (xs : List Stmt) (run : Bool) → capped (list_span ss (capped k) xs run) ≡ capped (list_span ss k xs run)
@@ -121,7 +136,7 @@ pub capped-zero : capped 0 ≡ 0
 unfolding capped
 capped-zero = refl
 
-pub ruleset capped_layers = (span_layers, capped-add, capped-mul, capped-twice, capped-list, capped-zero)
+pub ruleset capped_layers = (span_layers, capped-step, capped-right, capped-add, capped-mul, capped-twice, capped-list, capped-zero)
 
 -- ---- the spans of functions
 

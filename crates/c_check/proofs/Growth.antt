@@ -1,13 +1,14 @@
 -- A scope only grows while its list is read, so that its end gives the scope around it.
-use Rattle.std.proofs.Common.{◌≡◌, ℕ, Bool, List, [], ◌∷◌, ◌++◌, Option, Some, None, length, take, refl, sym, ap, ◌∙◌, append_assoc}
+use Rattle.std.proofs.Common.{◌≡◌, ℕ, Bool, false, List, [], ◌∷◌, ◌++◌, Option, Some, None, length, take, refl, sym, ap, ◌∙◌, append_assoc}
 use Rattle.std.proofs.Math.Seq.{take-append_seam}
 use Rattle.c_tree.specs.declared.tree.Ty.{Ty}
 use Rattle.c_tree.specs.declared.program.Local.{Local}
+use Rattle.c_tree.specs.declared.unit.RawParam.{RawParam}
 use Rattle.c_tree.specs.declared.unit.RawStmt.{RawStmt}
 use Rattle.c_tree.specs.declared.unit.RawStmt.TheVariants.{Empty, Declare, Assign, Call, Break, Continue, Return, If', While', Do', For', Group'}
 use Rattle.c_tree.specs.declared.unit.RawTarget.TheVariants as target
 use Rattle.c_tree.specs.Scopes.{Known}
-use Rattle.c_tree.specs.Naming.{Scope, past, behind, stmt_locals, list_locals, list_behind}
+use Rattle.c_tree.specs.Naming.{Scope, local_of, declared, with_params, past, behind, stmt_locals, list_locals, list_behind}
 use Rattle.c_check.specs.declared.checker.Outer.{Outer}
 use Rattle.c_check.specs.Walks.{within, IsOuter, ended, option_behind, option_locals}
 
@@ -85,3 +86,24 @@ ended_for s a b xs o h =
     let u = option_behind t b in
     let last = grows_on t u (past u (list_locals xs)) (option_locals b) (list_locals xs) (grows_option t b) (grows_past u (list_locals xs)) in
     ended_is s (past u (list_locals xs)) s.looped (option_locals a ++ (option_locals b ++ list_locals xs)) o (grows_on inner t (past u (list_locals xs)) (option_locals a) (option_locals b ++ list_locals xs) (grows_option inner a) last) h
+
+-- parameters
+
+abbrev params_locals : List RawParam → List Local
+params_locals [] = []
+params_locals (p ∷ ps) = local_of p.ty p.spot.name None ∷ params_locals ps
+
+grows_params : (s : Scope) (ps : List RawParam) → Grows s (with_params s ps) (params_locals ps)
+grows_params s [] =
+    record { more = []; known = sym (append_nil s.known); locals = sym (append_nil s.locals); func = refl; result = refl }
+grows_params s (p ∷ ps) =
+    let t = declared s false p.ty p.spot.name None in
+    let one : Grows s t (local_of p.ty p.spot.name None ∷ []) = record { more = _; known = refl; locals = refl; func = refl; result = refl } in
+    grows_on s t (with_params t ps) (local_of p.ty p.spot.name None ∷ []) (params_locals ps) one (grows_params t ps)
+
+-- the names of a function are taken back behind it
+pub taken_back : (s : Scope) (ps : List RawParam) (xs : List RawStmt) → take (length s.known) (list_behind (with_params s ps) xs).known ≡ s.known
+taken_back s ps xs =
+    let t = with_params s ps in
+    let g = grows_on s t (list_behind t xs) (params_locals ps) (list_locals xs) (grows_params s ps) (grows_list t xs) in
+    ap (take (length s.known)) g.known ∙ take-append_seam s.known g.more

@@ -9,3 +9,6 @@ pub mod ForLoops
 pub mod FileLayers
 pub mod CappedSpans
 pub mod FirstFault
+pub mod WideSpans
+pub mod InputNumbers
+pub mod Judged

@@ -3,7 +3,8 @@
 ghost use Rattle.std.specs.Prelude.{◌≡◌, ◌++◌, IfOk, OnOk, List, [], option_map, length, unwrap_or, Some};
 ghost use Rattle.c_tree.specs.Naming as naming;
 ghost use Rattle.c_tree.specs.Constants.{exprs_of, array_length, shape_length};
-ghost use Rattle.c_tree.specs.Uses.{declared_at, length_uses, list_uses, declarator_uses, sized, params_uses, stmts_uses};
+ghost use Rattle.c_tree.specs.Uses.{declared_at, length_uses, list_uses, declarator_uses, sized, params_uses, stmts_uses, constant_uses, constants_uses};
+ghost use Rattle.std.specs.Option.{option_map_or};
 ghost use Rattle.c_tree.specs.Naming.{stmts_of, list_behind};
 ghost use Rattle.c_check.specs.Entered.{entered};
 ghost use Rattle.c_check.specs.Verdicts.{first_of, after_use, after_uses};
@@ -12,7 +13,7 @@ ghost use Rattle.c_check.specs.Walks.{scope_of, within, IsOuter, ended};
 use crate::names::{Entity, Names};
 use crate::verdict::Verdict;
 use crate::{constants, expr};
-use c_tree::{Local, Name, NoMemory, RawFunc, RawParam, RawShape, Spot, Stmt, Ty, Var};
+use c_tree::{Local, Name, NoMemory, RawExpr, RawFunc, RawParam, RawShape, Spot, Stmt, Ty, Var};
 use sqlite_items::Items;
 use std::alloc::Global;
 use std::mem;
@@ -131,6 +132,40 @@ impl<'a> Checker<'a> {
                 Ok(Stmt::Array(local, list))
             }
         }
+    }
+
+    /// The length of an array, if it is written.
+    pub(crate) fn length(&mut self, e: &Option<RawExpr>) -> Result<(), NoMemory>
+        ensures names { self.new.names ≡ self.old.names }
+        ensures first { OnOk result (first_of self.new.verdict ≡ after_uses (first_of self.old.verdict) (length_uses self.old.names e.now)) }
+    {
+        expr::length(self.alloc, &self.names, &mut self.verdict, e)
+    }
+
+    /// The number of a scalar's initialiser at file scope, if there is one.
+    pub(crate) fn initial_number(
+        &mut self,
+        ty: Ty,
+        e: &Option<RawExpr>,
+    ) -> Result<Items<i64>, NoMemory>
+        ensures numbers { IfOk result (λ zs. zs ≡ naming.shape_values ty (RawShape.Scalar e.now)) }
+        ensures names { self.new.names ≡ self.old.names }
+        ensures first { OnOk result (first_of self.new.verdict ≡ after_uses (first_of self.old.verdict) (option_map_or (constant_uses self.old.names) e.now [])) }
+    {
+        expr::initial_number(self.alloc, &self.names, &mut self.verdict, ty, e)
+    }
+
+    /// The numbers of an array's list at file scope, if there is one.
+    pub(crate) fn initial_numbers(
+        &mut self,
+        ty: Ty,
+        list: &Option<Items<RawExpr>>,
+    ) -> Result<Items<i64>, NoMemory>
+        ensures numbers { IfOk result (λ zs. zs ≡ naming.kept_numbers ty (unwrap_or list.now [])) }
+        ensures names { self.new.names ≡ self.old.names }
+        ensures first { OnOk result (first_of self.new.verdict ≡ after_uses (first_of self.old.verdict) (constants_uses self.old.names (unwrap_or list.now []))) }
+    {
+        expr::initial_numbers(self.alloc, &self.names, &mut self.verdict, ty, list)
     }
 
     /// Declares the parameters in order.

@@ -1,8 +1,8 @@
 //! From the tree of a C text to its program: names become numbers, and what is not allowed is refused with its place.
 #![tactic(auto)]
 
-mod check;
 mod checker;
+mod checking;
 mod constants;
 mod entry;
 mod expr;
@@ -14,7 +14,7 @@ mod stmt;
 mod unit;
 mod verdict;
 
-pub use check::check;
+pub use checking::check;
 pub use fault::CheckFault;
 
 #[cfg(test)]

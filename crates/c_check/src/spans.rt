@@ -1,6 +1,6 @@
 //! The spans of functions, up to the greatest that is told apart.
 
-ghost use Rattle.std.specs.Prelude.{◌≡◌, ◌+◌, ◌*◌, [], map, IfOk};
+ghost use Rattle.std.specs.Prelude.{◌≡◌, ◌+◌, ◌*◌, [], false, IfOk};
 ghost use Rattle.c_tree.specs.Blocks.{is_simple};
 ghost use Rattle.c_tree.specs.Statements.{held};
 ghost use Rattle.c_tree.specs.Spans.{span, list_span, func_span, span_at, begun_span};
@@ -13,12 +13,22 @@ use std::alloc::{AllocError, Global};
 /// One more than the greatest span that a function may have, 2^64.
 const CAP: u128 = 18_446_744_073_709_551_617;
 
+// A number up to the cap.
+#[tactic(auto, unfolding(crate::specs::Capped::capped))]
+fn cut(n: u128) -> u128
+    ensures { result ≡ capped n }
+{
+    n.min(CAP)
+}
+
+#[tactic(auto, unfolding(crate::specs::Capped::capped))]
 fn sum(a: u128, b: u128) -> u128
     ensures { result ≡ capped (a + b) }
 {
     a.saturating_add(b).min(CAP)
 }
 
+#[tactic(auto, unfolding(crate::specs::Capped::capped))]
 fn product(a: u128, b: u128) -> u128
     ensures { result ≡ capped (a * b) }
 {
@@ -46,23 +56,26 @@ fn is_simple(stmt: &Stmt) -> bool
     }
 }
 
+#[tactic(auto, using(crate::proofs::CappedSpans::capped_layers))]
 fn begun(k: u128, run: bool) -> u128
     ensures { result ≡ capped (begun_span k run) }
 {
-    if run { 0 } else { k.min(CAP) }
+    if run { 0 } else { cut(k) }
 }
 
 // A call in scale k: its block, and the span of a function above.
+#[tactic(auto, using(crate::proofs::CappedSpans::capped_layers))]
 fn call(above: &[u128], k: u128, callee: u32) -> u128
     ensures { result ≡ capped (k + k * span_at above.now callee) }
 {
     match above.get(callee as usize) {
         Some(span) => sum(k, product(k, *span)),
-        None => k.min(CAP),
+        None => cut(k),
     }
 }
 
 #[cycle(spans)]
+#[tactic(auto, using(crate::proofs::CappedSpans::capped_layers))]
 fn list_span(above: &[u128], k: u128, stmts: &[Stmt]) -> u128
     ensures { result ≡ capped (list_span above.now k stmts.now false) }
 {
@@ -76,6 +89,7 @@ fn list_span(above: &[u128], k: u128, stmts: &[Stmt]) -> u128
 }
 
 #[cycle(spans)]
+#[tactic(auto, using(crate::proofs::CappedSpans::capped_layers))]
 fn held_span(above: &[u128], k: u128, stmt: &Option<Boxed<Stmt>>) -> u128
     ensures { result ≡ capped (list_span above.now k (held stmt.now) false) }
 {
@@ -96,9 +110,9 @@ fn span(above: &[u128], k: u128, stmt: &Stmt, run: bool) -> u128
         Stmt::Array(_, _) => begun(k, run),
         Stmt::Assign(_, _, _) => begun(k, run),
         Stmt::Call(_, callee, _) => call(above, k, *callee),
-        Stmt::Break => k.min(CAP),
-        Stmt::Continue => k.min(CAP),
-        Stmt::Return(_) => k.min(CAP),
+        Stmt::Break => cut(k),
+        Stmt::Continue => cut(k),
+        Stmt::Return(_) => cut(k),
         Stmt::If(_, first, second) => {
             let first = list_span(above, k, first.as_slice());
             let second = list_span(above, k, second.as_slice());

@@ -1,6 +1,6 @@
 //! The walk over a unit: its globals and its functions.
 
-ghost use Rattle.std.specs.Prelude.{◌≡◌, ◌+◌, ◌++◌, ◌∷◌, [], None, IfOk, OnOk, length, is_some};
+ghost use Rattle.std.specs.Prelude.{◌≡◌, ◌+◌, ◌++◌, ◌∷◌, [], None, false, IfOk, OnOk, length, is_some};
 ghost use Rattle.c_tree.specs.Scopes.{Function};
 ghost use Rattle.c_check.specs.Tables.{entity_of};
 ghost use Rattle.c_tree.specs.Naming.{started, known_funcs, behind_top, with_global, func_of, funcs_of, globals_of, shape_values};
@@ -138,7 +138,7 @@ impl<'a> UnitChecker<'a> {
         if let Some(size) = size {
             self.checker.verdict.sized(x.at, size, None, false);
         }
-        self.keep(ty, x, size, true, Items::new(alloc))
+        self.keep(ty, x, size, true, Items::new(self.checker.alloc))
     }
 
     // A variable of file scope that is not extern.
@@ -155,34 +155,20 @@ impl<'a> UnitChecker<'a> {
         ensures funcs { OnOk result (self.new.funcs ≡ self.old.funcs) }
         ensures first { OnOk result (first_of self.new.checker.verdict ≡ after_uses (first_of self.old.checker.verdict) (global_uses (file_of self.old) constant x.now shape.now)) }
     {
-        let alloc = self.checker.alloc;
         match shape {
             RawShape::Scalar(e) => {
                 self.declare(constant, x, false)?;
-                let names = &self.checker.names;
-                let values = expr::initial_number(alloc, names, &mut self.checker.verdict, ty, e)?;
+                let values = self.checker.initial_number(ty, e)?;
                 self.keep(ty, x, None, false, values)
             }
             RawShape::Array(length, list) => {
-                expr::length(
-                    alloc,
-                    &self.checker.names,
-                    &mut self.checker.verdict,
-                    length,
-                )?;
+                self.checker.length(length)?;
                 let size = constants::array_length(length, list)?;
                 self.declare(constant, x, true)?;
                 self.checker
                     .verdict
                     .sized(x.at, size, expr::count(list), false);
-                let names = &self.checker.names;
-                let values = expr::initial_numbers(
-                    alloc,
-                    names,
-                    &mut self.checker.verdict,
-                    ty,
-                    list,
-                )?;
+                let values = self.checker.initial_numbers(ty, list)?;
                 self.keep(ty, x, Some(size), false, values)
             }
         }

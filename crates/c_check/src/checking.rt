@@ -110,12 +110,16 @@ fn ask_of_spans(spans: &[u128], tops: &[RawTop], verdict: &mut Verdict)
 {
     let mut number = 0;
     for top in tops {
-        if let RawTop::Func(func) = top {
-            let Some(span) = spans.get(number) else {
-                return;
-            };
-            verdict.refuse_if(*span > MAX_SPAN, Fault::Span, func.spot.at);
-            number += 1;
+        match top {
+            RawTop::Outer(_, _, _, _) => {}
+            RawTop::Global(_, _, _, _, _) => {}
+            RawTop::Func(func) => {
+                let Some(span) = spans.get(number) else {
+                    return;
+                };
+                verdict.refuse_if(*span > MAX_SPAN, Fault::Span, func.spot.at);
+                number += 1;
+            }
         }
     }
 }

@@ -1,7 +1,7 @@
 use Rattle.std.proofs.Common.{◌≡◌, drop}
 use Rattle.c_tree.specs.Refusals.{wide}
 use Rattle.c_check.specs.Verdicts.{first_of, after_all}
-use Rattle.c_check.proofs.check.ask_of_spans.Given as goal
+use Rattle.c_check.proofs.checking.ask_of_spans.Given as goal
 
 -- the functions so far are asked of
 abbrev pub invariant-loop-top : goal.invariant-loop-top
