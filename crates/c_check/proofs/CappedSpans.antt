@@ -6,6 +6,7 @@ use Rattle.c_tree.specs.declared.tree.Stmt.{Stmt, Row_of-Stmt, end_of-Stmt, more
 use Rattle.c_tree.specs.declared.tree.Stmt.TheVariants.{Empty, Scalar, Array, Assign, Call, Break, Continue, Return, If', While', Do', For', Group'}
 use Rattle.c_tree.specs.declared.program.Func.{Func}
 use Rattle.c_tree.specs.Blocks.{is_simple}
+use Rattle.c_tree.specs.Statements.{held}
 use Rattle.c_tree.specs.Spans.{begun_span, span_at, span, row_span, held_span, list_span, func_span, spans}
 use Rattle.c_tree.proofs.SpanLayers.{span_layers}
 use Rattle.c_check.specs.Capped.{capped, capped_spans}
@@ -131,6 +132,22 @@ list_alike ss ts k l h e (x ∷ xs) run = add_alike _ _ _ _ (span_alike ss ts k 
 -- at a capped scale
 pub capped-list : (ss : List ℕ) (k : ℕ) (xs : List Stmt) (run : Bool) → capped (list_span ss (capped k) xs run) ≡ capped (list_span ss k xs run)
 capped-list ss k xs run = list_alike ss ss (capped k) k (λ g. refl) (capped-twice k) xs run
+
+-- the parts of a `for`
+pub for_capped : (ss : List ℕ) (k b : ℕ) (i j : Option Stmt) (xs : List Stmt) (inside first condition step body one two three : ℕ)
+    → inside ≡ capped (k * b) → first ≡ capped (list_span ss k (held i) false) → condition ≡ capped (k * (b + 1)) → step ≡ capped (list_span ss inside (held j) false) → body ≡ capped (list_span ss inside xs false)
+    → one ≡ capped (first + condition) → two ≡ capped (one + step) → three ≡ capped (two + body)
+    → three ≡ capped (list_span ss k (held i) false + k * (b + 1) + list_span ss (k * b) (held j) false + list_span ss (k * b) xs false)
+for_capped ss k b i j xs inside first condition step body one two three scale initial head next rest h g f =
+    let p = list_span ss k (held i) false in
+    let q = k * (b + 1) in
+    let r = list_span ss (k * b) (held j) false in
+    let u = list_span ss (k * b) xs false in
+    let stepped = next ∙ ap (λ n. capped (list_span ss n (held j) false)) scale ∙ capped-list ss (k * b) (held j) false in
+    let repeated = rest ∙ ap (λ n. capped (list_span ss n xs false)) scale ∙ capped-list ss (k * b) xs false in
+    let sum_one = h ∙ (λ n. capped (initial n + head n)) ∙ capped-add p q in
+    let sum_two = g ∙ (λ n. capped (sum_one n + stepped n)) ∙ capped-add (p + q) r in
+    f ∙ (λ n. capped (sum_two n + repeated n)) ∙ capped-add (p + q + r) u
 
 pub capped-zero : capped 0 ≡ 0
 unfolding capped

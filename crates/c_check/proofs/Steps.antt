@@ -16,11 +16,13 @@ pub append_nil : {A : Type 0} (xs : List A) → xs ++ [] ≡ xs
 append_nil [] = refl
 append_nil (x ∷ xs) = ap (λ l. x ∷ l) (append_nil xs)
 
--- the item that is found at i, and the rest
-pub next_found : {A : Type 0} (xs : List A) (i : ℕ) (x : A) → slice_get xs i ≡ Some x → drop i xs ≡ x ∷ drop (i + 1) xs
-next_found [] i x h = cc
-next_found (y ∷ xs) zero x h = let e : y ≡ x = cc in ap (λ z. z ∷ xs) e
-next_found (y ∷ xs) (suc i) x h = next_found xs i x h ∙ ap (λ j. x ∷ drop j (y ∷ xs)) (one i)
-  where
-    one : (i : ℕ) → suc (i + 1) ≡ suc i + 1
-    one i = omega arith
+-- what is looked up at i
+pub found_at : {A : Type 0} (xs : List A) (i : ℕ) (x : A) → i < length xs → x ≡ get_or xs i x → slice_get xs i ≡ Some x
+found_at [] i x h e = absurd (omega arith)
+found_at (y ∷ xs) zero x h e = ap (λ z. Some z) (sym e)
+found_at (y ∷ xs) (suc i) x h e = found_at xs i x (omega arith) e
+
+pub none_at : {A : Type 0} (xs : List A) (i : ℕ) → length xs ≤ i → slice_get xs i ≡ None
+none_at [] i h = refl
+none_at (y ∷ xs) zero h = absurd (omega arith)
+none_at (y ∷ xs) (suc i) h = none_at xs i (omega arith)

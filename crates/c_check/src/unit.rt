@@ -1,10 +1,10 @@
 //! The walk over a unit: its globals and its functions.
 
-ghost use Rattle.std.specs.Prelude.{◌≡◌, ◌+◌, ◌++◌, ◌∷◌, [], None, false, IfOk, OnOk, length, is_some};
+ghost use Rattle.std.specs.Prelude.{◌≡◌, ◌+◌, ◌++◌, ◌∷◌, [], None, Some, true, false, IfOk, OnOk, length, is_some};
 ghost use Rattle.c_tree.specs.Scopes.{Function};
 ghost use Rattle.c_check.specs.Tables.{entity_of};
 ghost use Rattle.c_tree.specs.Naming.{started, known_funcs, behind_top, with_global, func_of, funcs_of, globals_of, shape_values};
-ghost use Rattle.c_tree.specs.Uses.{declared_at, top_uses, tops_uses, global_uses, outer_uses, func_uses};
+ghost use Rattle.c_tree.specs.Uses.{declared_at, top_uses, tops_uses, global_uses, outer_uses, func_uses, Sized};
 ghost use Rattle.c_tree.specs.Constants.{shape_length};
 ghost use Rattle.c_check.specs.Verdicts.{first_of, after_use, after_uses};
 ghost use Rattle.c_check.specs.Files.{file_of, top_funcs, top_globals, outer_length, func_count};
@@ -126,19 +126,42 @@ impl<'a> UnitChecker<'a> {
         ensures funcs { OnOk result (self.new.funcs ≡ self.old.funcs) }
         ensures first { OnOk result (first_of self.new.checker.verdict ≡ after_uses (first_of self.old.checker.verdict) (outer_uses (file_of self.old) x.now length.now)) }
     {
-        let alloc = self.checker.alloc;
-        expr::length(
-            alloc,
-            &self.checker.names,
-            &mut self.checker.verdict,
-            length,
-        )?;
-        let size = outer_length(length);
-        self.declare(constant, x, size.is_some())?;
-        if let Some(size) = size {
-            self.checker.verdict.sized(x.at, size, None, false);
+        self.checker.length(length)?;
+        match outer_length(length) {
+            None => self.outer_scalar(constant, ty, x),
+            Some(size) => self.outer_array(constant, ty, x, size),
         }
-        self.keep(ty, x, size, true, Items::new(self.checker.alloc))
+    }
+
+    // A scalar that is extern.
+    #[tactic(auto, using(crate::proofs::Heard::heard))]
+    fn outer_scalar(&mut self, constant: bool, ty: Ty, x: &'a Spot) -> Result<(), NoMemory>
+        ensures names { OnOk result (self.new.checker.names ≡ (with_global (file_of self.old) constant x.now.name false).known) }
+        ensures globals { OnOk result (self.new.globals ≡ self.old.globals ++ (record { name = x.now.name; ty = ty; length = None; outer = true; values = [] }) ∷ []) }
+        ensures funcs { OnOk result (self.new.funcs ≡ self.old.funcs) }
+        ensures first { OnOk result (first_of self.new.checker.verdict ≡ after_use (first_of self.old.checker.verdict) (declared_at self.old.checker.names 1 x.now)) }
+    {
+        self.declare(constant, x, false)?;
+        self.keep(ty, x, None, true, Items::new(self.checker.alloc))
+    }
+
+    // An array that is extern, of this length.
+    #[tactic(auto, using(crate::proofs::Heard::heard))]
+    fn outer_array(
+        &mut self,
+        constant: bool,
+        ty: Ty,
+        x: &'a Spot,
+        size: u32,
+    ) -> Result<(), NoMemory>
+        ensures names { OnOk result (self.new.checker.names ≡ (with_global (file_of self.old) constant x.now.name true).known) }
+        ensures globals { OnOk result (self.new.globals ≡ self.old.globals ++ (record { name = x.now.name; ty = ty; length = Some size; outer = true; values = [] }) ∷ []) }
+        ensures funcs { OnOk result (self.new.funcs ≡ self.old.funcs) }
+        ensures first { OnOk result (first_of self.new.checker.verdict ≡ after_use (after_use (first_of self.old.checker.verdict) (declared_at self.old.checker.names 1 x.now)) (Sized x.now.at size None false)) }
+    {
+        self.declare(constant, x, true)?;
+        self.checker.verdict.sized(x.at, size, None, false);
+        self.keep(ty, x, Some(size), true, Items::new(self.checker.alloc))
     }
 
     // A variable of file scope that is not extern.

@@ -10,8 +10,8 @@ returns-then-left-count c =
     let x = c.top-item.result in
     let rest = drop (c.loop-top.top-index + 1) c.args.tops.now in
     let at = next_item c.args.tops.now c.loop-top.top-index x c.loop-top-test.true c.top-item.is in
-    let r = c.inputs_of.result in
-    let split = outer_inputs-cons x rest r.count r.at c.inputs_of.ensures in
+    let r = c.inputs_of-count.result in
+    let split = outer_inputs-cons x rest r.count r.at c.inputs_of-count.ensures in
     sym (among_copies r.count r.at (outer_inputs rest) c.loop-top.left c.if-left-count.true)
     ∙ ap (λ ns. slice_get ns c.loop-top.left) (sym split)
     ∙ ap (λ ts. slice_get (outer_inputs ts) c.loop-top.left) (sym at) ∙ c.loop-top.invariant
@@ -21,8 +21,8 @@ loop-top-preserved c =
     let x = c.top-item.result in
     let rest = drop (c.loop-top.top-index + 1) c.args.tops.now in
     let at = next_item c.args.tops.now c.loop-top.top-index x c.loop-top-test.true c.top-item.is in
-    let r = c.inputs_of.result in
-    let split = outer_inputs-cons x rest r.count r.at c.inputs_of.ensures in
+    let r = c.inputs_of-count.result in
+    let split = outer_inputs-cons x rest r.count r.at c.inputs_of-count.ensures in
     sym (behind_copies r.count r.at (outer_inputs rest) c.loop-top.left c.if-left-count.false)
     ∙ ap (λ ns. slice_get ns c.loop-top.left) (sym split)
     ∙ ap (λ ts. slice_get (outer_inputs ts) c.loop-top.left) (sym at) ∙ c.loop-top.invariant
