@@ -1,5 +1,0 @@
-pub mod Changed
-pub mod Machine
-pub mod Work
-pub mod Starts
-pub mod Ends
