@@ -1,0 +1,125 @@
+//! Checking a unit.
+
+ghost use Rattle.std.specs.Prelude.{◌≡◌, IfOk, IfErr, IfSome, None, unwrap_or};
+ghost use Rattle.c_tree.specs.Naming.{program_of, entry_number};
+ghost use Rattle.c_tree.specs.Uses.{uses};
+ghost use Rattle.c_tree.specs.Refusals.{Typed, IsRefused, faults, wide, no_entries, too_many_inputs};
+ghost use Rattle.c_check.specs.Verdicts.{first_of, after_all, after_uses};
+ghost use Rattle.c_check.specs.Answers.{told};
+
+use crate::checker::Checker;
+use crate::fault::{CheckFault, Fault};
+use crate::unit::UnitChecker;
+use crate::verdict::Verdict;
+use crate::{entry, spans};
+use c_tree::{Func, NoMemory, Program, RawTop, Unit};
+use std::alloc::Global;
+
+/// The greatest span of a function.
+const MAX_SPAN: u128 = 18_446_744_073_709_551_616;
+
+/// The program of a unit, where no fault stands: the unit with its names replaced by numbers. Of the faults the first of
+/// `CheckFault` is told, and of that one the smallest place; want of memory may be told before any. The entry is the function
+/// that runs begin with.
+pub fn check(alloc: Global, unit: Unit, entry: &str) -> Result<Program, CheckFault>
+    ensures program { IfOk result (Typed unit entry.now) }
+    ensures refused { IfErr result (λ e. IfSome (told e) (IsRefused unit entry.now)) }
+{
+    let (program, verdict) = judged(alloc, &unit, entry.as_bytes())?;
+    match verdict.first {
+        None => Ok(program),
+        Some(refusal) => Err(refusal.into()),
+    }
+}
+
+// The program of a unit, and the first of its faults.
+fn judged(alloc: Global, unit: &Unit, entry: &[u8]) -> Result<(Program, Verdict), NoMemory>
+    ensures program { IfOk result (λ r. r.0 ≡ program_of unit.now entry.now) }
+    ensures first { IfOk result (λ r. first_of r.1 ≡ after_all None (faults unit.now entry.now)) }
+{
+    let (program, mut verdict) = named(alloc, unit, entry)?;
+    ask_of_entry(unit, entry, &mut verdict);
+    ask_of_inputs(unit, entry, &mut verdict);
+    let spans = spans::spans(alloc, program.funcs.as_slice())?;
+    ask_of_spans(&spans, unit.tops.as_slice(), &mut verdict);
+    Ok((program, verdict))
+}
+
+// The program of a unit, and the first fault of its single uses.
+fn named(alloc: Global, unit: &Unit, entry: &[u8]) -> Result<(Program, Verdict), NoMemory>
+    ensures program { IfOk result (λ r. r.0 ≡ program_of unit.now entry.now) }
+    ensures first { IfOk result (λ r. first_of r.1 ≡ after_uses None (uses unit.now)) }
+{
+    let tops = unit.tops.as_slice();
+    let mut walk = UnitChecker::start(alloc, tops)?;
+    walk.tops(tops)?;
+    let UnitChecker {
+        checker,
+        globals,
+        funcs,
+    } = walk;
+    let Checker { verdict, .. } = checker;
+    let entry = first_entry(funcs.as_slice(), entry)?;
+    let program = Program {
+        globals,
+        funcs,
+        entry,
+    };
+    Ok((program, verdict))
+}
+
+// The number of the function of this name; 0 where there is none.
+fn first_entry(funcs: &[Func], name: &[u8]) -> Result<u32, NoMemory>
+    ensures { IfOk result (λ n. n ≡ unwrap_or (entry_number funcs.now name.now) 0) }
+{
+    let number = match entry::entry_number(funcs, name) {
+        Some(number) => number,
+        None => 0,
+    };
+    match u32::try_from(number) {
+        Ok(number) => Ok(number),
+        Err(_) => Err(NoMemory),
+    }
+}
+
+// No function has the entry's name.
+fn ask_of_entry(unit: &Unit, entry: &[u8], verdict: &mut Verdict)
+    ensures { first_of verdict.new ≡ after_all (first_of verdict.old) (no_entries unit.now entry.now) }
+{
+    let is_missing = entry::func_named(unit.tops.as_slice(), entry).is_none();
+    verdict.refuse_if(is_missing, Fault::NoEntry, unit.end);
+}
+
+// A 65th input number.
+fn ask_of_inputs(unit: &Unit, entry: &[u8], verdict: &mut Verdict)
+    ensures { first_of verdict.new ≡ after_all (first_of verdict.old) (too_many_inputs unit.now entry.now) }
+{
+    let tops = unit.tops.as_slice();
+    let extra = match entry::func_named(tops, entry) {
+        None => entry::extra_input(&[], tops),
+        Some(func) => entry::extra_input(func.params.as_slice(), tops),
+    };
+    if let Some(at) = extra {
+        verdict.refuse(Fault::Inputs, at);
+    }
+}
+
+// A function whose span is above 2^64.
+fn ask_of_spans(spans: &[u128], tops: &[RawTop], verdict: &mut Verdict)
+    ensures { first_of verdict.new ≡ after_all (first_of verdict.old) (wide spans.now tops.now) }
+{
+    let mut number = 0;
+    for top in tops {
+        match top {
+            RawTop::Outer(_, _, _, _) => {}
+            RawTop::Global(_, _, _, _, _) => {}
+            RawTop::Func(func) => {
+                let Some(span) = spans.get(number) else {
+                    return;
+                };
+                verdict.refuse_if(*span > MAX_SPAN, Fault::Span, func.spot.at);
+                number += 1;
+            }
+        }
+    }
+}
