@@ -18,9 +18,12 @@ use std::alloc::Global;
 /// The greatest span of a function.
 const MAX_SPAN: u128 = 18_446_744_073_709_551_616;
 
-/// The program of a unit, where no fault stands: the unit with its names replaced by numbers. Of the faults the first of
-/// `CheckFault` is told, and of that one the smallest place; want of memory may be told before any. The entry is the function
-/// that runs begin with.
+/// The program of a unit whose runs begin with the function `entry`: the unit with its names replaced by numbers, where no
+/// fault stands. A name is in scope from the end of its declarator, its own initialiser included, to the end of the list or
+/// the `for` that declares it (C11 6.2.1); functions are known in the whole unit. Bytes of names are compared.
+///
+/// Any unit is taken, whatever its height, and consumed. Of the faults that stand the first of `CheckFault` is told, and of
+/// that one the smallest place. Want of memory may be told in place of either answer.
 pub fn check(alloc: Global, unit: Unit, entry: &str) -> Result<Program, CheckFault>
     ensures program { IfOk result (Typed unit entry.now) }
     ensures refused { IfErr result (λ e. IfSome (told e) (IsRefused unit entry.now)) }

@@ -5,26 +5,26 @@ ghost use Rattle.c_tree.specs.Refusals.{number};
 ghost use Rattle.c_check.specs.Verdicts.{fault_of, refusal_of, precedes};
 
 use c_tree::NoMemory;
-use std::alloc::AllocError;
 
-/// Why a unit is no program. A place is an offset in the text. Of several faults the one that stands first in this list is
-/// told, and of that one the smallest place.
+/// Why a unit is no program. A place is the offset of a byte in the text, or the text's length. Of several faults the one
+/// that stands first in this list is told, and of that one the smallest place. What is said of a fault is read in a unit that
+/// has none before it in the list.
 #[derive(Clone, Copy, Debug, PartialEq, Eq)]
 pub enum CheckFault {
     /// A used name that is not in scope, or a called one that is no name of the unit in scope (C11 6.2.1).
     NoName { at: u32 },
-    /// The later of two declarations of a name in one scope (6.7 paragraph 3).
+    /// The later of two declarations of a name in one scope (6.7 paragraph 3). At file scope too, where C takes some.
     Twice { at: u32 },
-    /// An array without index, an index on a scalar, a function that is not called, a variable that is called, or an
-    /// assignment to a `const` name.
+    /// The name of an array without index, of a scalar with one, of a function that is not called or of a variable that is
+    /// called, or an assignment to a `const` name (6.5.2.1, 6.5.2.2, 6.5.16).
     Kind { at: u32 },
     /// The name in a call with another number of arguments than parameters (6.5.2.2 paragraph 2).
     Arity { at: u32 },
-    /// A called `void` function whose result goes somewhere, a `return` with a value in a `void` function, or one without
-    /// in another.
+    /// The name of a called `void` function whose result goes somewhere, or a `return` with a value in a `void` function or
+    /// without one in another (6.3.2.2, 6.8.6.4).
     NoValue { at: u32 },
-    /// The first token of an initialiser at file scope or of an array's length that has a name in it or is undefined
-    /// (6.6, 6.7.9 paragraph 4).
+    /// The first token of an initialiser at file scope, of an expression in a list there or of an array's length that has a
+    /// name in it, also where it is not evaluated, or is undefined (6.6, 6.7.9 paragraph 4).
     Const { at: u32 },
     /// A `break` or `continue` outside a loop (6.8.6.2, 6.8.6.3).
     Stray { at: u32 },
@@ -32,31 +32,22 @@ pub enum CheckFault {
     NoBound { at: u32 },
     /// A bound outside 1 to 1,048,576.
     BoundRange { at: u32 },
-    /// No function has the entry's name; the place is the text's end.
+    /// No function has the entry's name; the place is the text's length.
     NoEntry { at: u32 },
-    /// A called function that is the caller or is not defined above it.
+    /// The name of a called function that is the caller or is not defined above it.
     LaterCall { at: u32 },
-    /// The name of an array with a length outside 1 to 64, with a longer list, or with neither length nor list.
+    /// The name of an array with a length outside 1 to 64, with a list that is longer than it, or with neither length nor
+    /// list.
     ArrayLength { at: u32 },
-    /// The name that declares the 65th input number.
+    /// The name that declares the 65th input number. The inputs are the entry function's parameters in order, then the
+    /// extern variables in the order of their declarations, an array element by element.
     Inputs { at: u32 },
     /// The name of a local array without a list.
     NoInit { at: u32 },
-    /// The name of a function whose span is above 2^64.
+    /// The name of a function whose span, the sum of the scales of its blocks with calls inlined, is above 2^64.
     Span { at: u32 },
     /// Want of memory.
     NoMemory,
-}
-
-impl From<AllocError> for CheckFault {
-    ghost use Rattle.std.specs.Prelude.{◌≡◌};
-    ghost use Rattle.c_check.specs.declared.fault.CheckFault.TheVariants.{NoMemory};
-
-    ghost from_gives = { λ _ e. e ≡ NoMemory };
-
-    fn from(_: AllocError) -> CheckFault {
-        CheckFault::NoMemory
-    }
 }
 
 impl From<NoMemory> for CheckFault {

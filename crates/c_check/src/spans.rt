@@ -8,7 +8,7 @@ ghost use Rattle.c_check.specs.Capped.{capped, capped_spans};
 
 use c_tree::{Func, NoMemory, Stmt};
 use sqlite_items::Boxed;
-use std::alloc::{AllocError, Global};
+use std::alloc::Global;
 
 /// One more than the greatest span that a function may have, 2^64.
 const CAP: u128 = 18_446_744_073_709_551_617;

@@ -1,9 +1,9 @@
 //! The statements of a function.
 
-ghost use Rattle.std.specs.Prelude.{◌≡◌, ◌++◌, IfOk, OnOk, option_map, Some};
+ghost use Rattle.std.specs.Prelude.{◌≡◌, ◌∷◌, [], IfOk, OnOk, option_map, Some};
 ghost use Rattle.c_tree.specs.Naming as naming;
 ghost use Rattle.c_tree.specs.Naming.{past, targeted, behind, stmt_of, stmts_of, list_behind, list_locals};
-ghost use Rattle.c_tree.specs.Uses.{place_uses, target_uses, has_target, stmt_uses, stmts_uses};
+ghost use Rattle.c_tree.specs.Uses.{Left, place_uses, target_uses, has_target, stmt_uses, stmts_uses};
 ghost use Rattle.c_tree.specs.declared.unit.RawStmt.TheVariants as raw;
 ghost use Rattle.c_check.specs.Verdicts.{first_of, after_uses};
 ghost use Rattle.c_check.specs.Walks.{scope_of, within, option_behind, option_uses};
@@ -11,13 +11,11 @@ ghost use Rattle.c_check.specs.Walks.{scope_of, within, option_behind, option_us
 use crate::checker::Checker;
 use crate::expr;
 use crate::names::Entity;
+use crate::verdict::MAX_BOUND;
 use c_tree::{
-    NoMemory, Place, RawBound, RawExpr, RawPlace, RawStmt, RawTarget, Spot, Stmt, Target,
+    BinOp, NoMemory, Place, RawBound, RawExpr, RawPlace, RawStmt, RawTarget, Spot, Stmt, Target,
 };
 use sqlite_items::{Boxed, Items};
-
-/// The greatest bound of a loop.
-const MAX_BOUND: u64 = 1_048_576;
 
 // A bound, where it is in its range; else 0.
 fn bound_number(bound: Option<RawBound>) -> u32
@@ -111,6 +109,47 @@ impl<'a> Checker<'a> {
         Ok(Stmt::Call(target, Entity::function_number(entity), arguments))
     }
 
+    // An assignment.
+    #[tactic(auto, using(crate::proofs::Heard::heard, crate::proofs::StmtLayers::stmt_layers, crate::proofs::StmtLayers::stmt_use_layers, crate::proofs::StmtLayers::behind_layers))]
+    fn assignment(
+        &mut self,
+        place: &RawPlace,
+        op: Option<BinOp>,
+        e: &RawExpr,
+    ) -> Result<Stmt, NoMemory>
+        ensures tree { IfOk result (λ s. s ≡ stmt_of (scope_of self.old) (raw.Assign place.now op e.now)) }
+        ensures scope { OnOk result (scope_of self.new ≡ behind (scope_of self.old) (raw.Assign place.now op e.now)) }
+        ensures first { OnOk result (first_of self.new.verdict ≡ after_uses (first_of self.old.verdict) (stmt_uses (scope_of self.old) (raw.Assign place.now op e.now))) }
+    {
+        let place = self.place(place)?;
+        let e = expr::expr(self.alloc, &self.names, &mut self.verdict, e)?;
+        Ok(Stmt::Assign(place, op, e))
+    }
+
+    // A `break` or a `continue`.
+    #[tactic(auto, using(crate::proofs::Heard::heard))]
+    fn leaving(&mut self, at: u32, stmt: Stmt) -> Stmt
+        ensures tree { result ≡ stmt }
+        ensures scope { scope_of self.new ≡ scope_of self.old }
+        ensures first { first_of self.new.verdict ≡ after_uses (first_of self.old.verdict) (Left at self.old.looped ∷ []) }
+    {
+        self.verdict.left(at, self.looped);
+        stmt
+    }
+
+    // A `return`.
+    #[tactic(auto, using(crate::proofs::Heard::heard, crate::proofs::StmtLayers::stmt_layers, crate::proofs::StmtLayers::stmt_use_layers, crate::proofs::StmtLayers::behind_layers))]
+    fn returning(&mut self, at: u32, e: &Option<RawExpr>) -> Result<Stmt, NoMemory>
+        ensures tree { IfOk result (λ s. s ≡ stmt_of (scope_of self.old) (raw.Return at e.now)) }
+        ensures scope { OnOk result (scope_of self.new ≡ behind (scope_of self.old) (raw.Return at e.now)) }
+        ensures first { OnOk result (first_of self.new.verdict ≡ after_uses (first_of self.old.verdict) (stmt_uses (scope_of self.old) (raw.Return at e.now))) }
+    {
+        self.verdict
+            .returned(at, e.is_some(), self.returns.is_some());
+        let e = expr::optional(self.alloc, &self.names, &mut self.verdict, e)?;
+        Ok(Stmt::Return(e))
+    }
+
     /// The statements of a list.
     #[cycle(stmts)]
     pub(crate) fn stmts(&mut self, list: &'a [RawStmt]) -> Result<Items<Stmt>, NoMemory>
@@ -155,6 +194,46 @@ impl<'a> Checker<'a> {
         }
     }
 
+    // A `while`, whose body is a list inside.
+    #[cycle(stmts)]
+    #[tactic(auto, using(crate::proofs::Heard::heard, crate::proofs::StmtLayers::stmt_layers, crate::proofs::StmtLayers::stmt_use_layers, crate::proofs::StmtLayers::behind_layers))]
+    fn while_loop(
+        &mut self,
+        at: u32,
+        bound: Option<RawBound>,
+        body: &'a Items<RawStmt>,
+        condition: &RawExpr,
+    ) -> Result<Stmt, NoMemory>
+        ensures tree { IfOk result (λ s. s ≡ stmt_of (scope_of self.old) (raw.While at bound condition.now body.now)) }
+        ensures scope { OnOk result (scope_of self.new ≡ behind (scope_of self.old) (raw.While at bound condition.now body.now)) }
+        ensures first { OnOk result (first_of self.new.verdict ≡ after_uses (first_of self.old.verdict) (stmt_uses (scope_of self.old) (raw.While at bound condition.now body.now))) }
+    {
+        self.verdict.looped(at, bound);
+        let condition = expr::expr(self.alloc, &self.names, &mut self.verdict, condition)?;
+        let body = self.inner(true, body)?;
+        Ok(Stmt::While(bound_number(bound), condition, body))
+    }
+
+    // A `do`, whose body's names are not in scope in its condition.
+    #[cycle(stmts)]
+    #[tactic(auto, using(crate::proofs::Heard::heard, crate::proofs::StmtLayers::stmt_layers, crate::proofs::StmtLayers::stmt_use_layers, crate::proofs::StmtLayers::behind_layers))]
+    fn do_loop(
+        &mut self,
+        at: u32,
+        bound: Option<RawBound>,
+        body: &'a Items<RawStmt>,
+        condition: &RawExpr,
+    ) -> Result<Stmt, NoMemory>
+        ensures tree { IfOk result (λ s. s ≡ stmt_of (scope_of self.old) (raw.Do at bound body.now condition.now)) }
+        ensures scope { OnOk result (scope_of self.new ≡ behind (scope_of self.old) (raw.Do at bound body.now condition.now)) }
+        ensures first { OnOk result (first_of self.new.verdict ≡ after_uses (first_of self.old.verdict) (stmt_uses (scope_of self.old) (raw.Do at bound body.now condition.now))) }
+    {
+        self.verdict.looped(at, bound);
+        let body = self.inner(true, body)?;
+        let condition = expr::expr(self.alloc, &self.names, &mut self.verdict, condition)?;
+        Ok(Stmt::Do(bound_number(bound), body, condition))
+    }
+
     // A statement.
     #[cycle(stmts)]
     #[tactic(auto, using(crate::proofs::Heard::heard, crate::proofs::StmtLayers::stmt_layers, crate::proofs::StmtLayers::stmt_use_layers, crate::proofs::StmtLayers::behind_layers))]
@@ -166,44 +245,19 @@ impl<'a> Checker<'a> {
         match stmt {
             RawStmt::Empty => Ok(Stmt::Empty),
             RawStmt::Declare(constant, ty, x, shape) => self.declaration(*constant, *ty, x, shape),
-            RawStmt::Assign(place, op, e) => {
-                let place = self.place(place)?;
-                let e = expr::expr(self.alloc, &self.names, &mut self.verdict, e)?;
-                Ok(Stmt::Assign(place, *op, e))
-            }
+            RawStmt::Assign(place, op, e) => self.assignment(place, *op, e),
             RawStmt::Call(target, callee, arguments) => self.call(target, callee, arguments),
-            RawStmt::Break(at) => {
-                self.verdict.left(*at, self.looped);
-                Ok(Stmt::Break)
-            }
-            RawStmt::Continue(at) => {
-                self.verdict.left(*at, self.looped);
-                Ok(Stmt::Continue)
-            }
-            RawStmt::Return(at, e) => {
-                self.verdict
-                    .returned(*at, e.is_some(), self.returns.is_some());
-                let e = expr::optional(self.alloc, &self.names, &mut self.verdict, e)?;
-                Ok(Stmt::Return(e))
-            }
+            RawStmt::Break(at) => Ok(self.leaving(*at, Stmt::Break)),
+            RawStmt::Continue(at) => Ok(self.leaving(*at, Stmt::Continue)),
+            RawStmt::Return(at, e) => self.returning(*at, e),
             RawStmt::If(e, first, second) => {
                 let e = expr::expr(self.alloc, &self.names, &mut self.verdict, e)?;
                 let first = self.inner(self.looped, first)?;
                 let second = self.inner(self.looped, second)?;
                 Ok(Stmt::If(e, first, second))
             }
-            RawStmt::While(at, bound, e, body) => {
-                self.verdict.looped(*at, *bound);
-                let e = expr::expr(self.alloc, &self.names, &mut self.verdict, e)?;
-                let body = self.inner(true, body)?;
-                Ok(Stmt::While(bound_number(*bound), e, body))
-            }
-            RawStmt::Do(at, bound, body, e) => {
-                self.verdict.looped(*at, *bound);
-                let body = self.inner(true, body)?;
-                let e = expr::expr(self.alloc, &self.names, &mut self.verdict, e)?;
-                Ok(Stmt::Do(bound_number(*bound), body, e))
-            }
+            RawStmt::While(at, bound, e, body) => self.while_loop(*at, *bound, body, e),
+            RawStmt::Do(at, bound, body, e) => self.do_loop(*at, *bound, body, e),
             RawStmt::For(at, bound, initial, e, step, body) => {
                 self.verdict.looped(*at, *bound);
                 let outer = self.open(self.looped)?;

@@ -11,7 +11,7 @@ use crate::names::Entity;
 use c_tree::{RawBound, Value};
 
 /// The greatest bound of a loop.
-const MAX_BOUND: u64 = 1_048_576;
+pub(crate) const MAX_BOUND: u64 = 1_048_576;
 /// The greatest length of an array.
 const MAX_LENGTH: u32 = 64;
 

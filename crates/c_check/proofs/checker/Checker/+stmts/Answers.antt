@@ -54,7 +54,7 @@ stmt-returns-in_ok-close-in-For-clause-tree t c =
       first = c.in_ok-initial-in-For.ensures.scope;
       second = c.in_ok-step-in-For.ensures.scope;
     } in
-    ap (λ n. stmt.For n c.in_ok-initial-in-For.initial c.in_ok-e-in-For.e c.in_ok-step-in-For.step c.in_ok-body-in-For.body) c.bound_number-in-For.ensures
+    ap (λ n. stmt.For n c.in_ok-initial-in-For.initial c.in_ok-e-in-For.e c.in_ok-step-in-For.step c.in_ok-body-in-For.body) c.bound_number.ensures
     ∙ for_tree s _ _ _ c.in-For.at c.in-For.bound c.in-For.initial c.in-For.e c.in-For.step c.in-For.body _ _ _ _ inside c.in_ok-initial-in-For.ensures.tree c.in_ok-e-in-For.ensures.tree c.in_ok-step-in-For.ensures.tree c.in_ok-body-in-For.ensures.tree
     ∙ ap (stmt_of s) (sym c.in-For.is)
 
@@ -79,5 +79,5 @@ stmt-returns-in_ok-close-in-For-clause-first t c =
       second = c.in_ok-step-in-For.ensures.scope;
     } in
     c.in_ok-close-in-For.ensures.same
-    ∙ for_first s _ _ _ c.in-For.at c.in-For.bound c.in-For.initial c.in-For.e c.in-For.step c.in-For.body f (first_of c.open.new.self.verdict) (first_of c.held.new.self.verdict) (first_of c.expr-in-For.new.verdict) (first_of c.held-in-For.new.self.verdict) (first_of c.inner-in-For.new.self.verdict) inside (c.in_ok-outer-in-For.ensures.same ∙ c.looped-in-For.ensures) c.in_ok-initial-in-For.ensures.first c.in_ok-e-in-For.ensures.first c.in_ok-step-in-For.ensures.first c.in_ok-body-in-For.ensures.first
+    ∙ for_first s _ _ _ c.in-For.at c.in-For.bound c.in-For.initial c.in-For.e c.in-For.step c.in-For.body f (first_of c.open.new.self.verdict) (first_of c.held.new.self.verdict) (first_of c.expr-in-For.new.verdict) (first_of c.held-in-For.new.self.verdict) (first_of c.inner-in-For.new.self.verdict) inside (c.in_ok-outer-in-For.ensures.same ∙ c.looped.ensures) c.in_ok-initial-in-For.ensures.first c.in_ok-e-in-For.ensures.first c.in_ok-step-in-For.ensures.first c.in_ok-body-in-For.ensures.first
     ∙ ap (λ x. after_uses f (stmt_uses s x)) (sym c.in-For.is)
