@@ -103,6 +103,16 @@ fn the_empty_text_has_no_entry(rt: HostRuntime) {
 }
 
 #[test]
+fn a_program_is_answered(rt: HostRuntime) {
+    let alloc = rt.alloc();
+    // int main(void) { int x; }
+    let x = declared(alloc, b"x", 21).expect(&rt, "memory");
+    let unit = main_of(alloc, x).expect(&rt, "memory");
+    let program = check(alloc, unit, "main").expect(&rt, "a program");
+    assert!(rt; program.entry == 0 && program.globals.len() == 0 && program.funcs.len() == 1);
+}
+
+#[test]
 fn an_entry_has_any_name(rt: HostRuntime) {
     let alloc = rt.alloc();
     // int main(void) { ; }
@@ -212,9 +222,9 @@ fn arrays_are_short(rt: HostRuntime) {
 }
 
 #[test]
-fn spans_end_at_the_cap(rt: HostRuntime) {
+fn spans_are_at_most_two_to_the_64(rt: HostRuntime) {
     let alloc = rt.alloc();
-    // four loops of the bound 65,536 in one another have at most 2^64 blocks in all, the fifth none
+    // four loops of the bound 65,536 in one another: the innermost condition alone comes 65,536^3 * 65,537 times
     let bound = Some(RawBound {
         at: 18,
         value: 65_536,
