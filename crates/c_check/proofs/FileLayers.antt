@@ -1,7 +1,5 @@
 -- One declaration at file scope, as code opens it.
-use Rattle.std.proofs.Common.{◌≡◌, ℕ, ◌+◌, add-zero, List, [], ◌∷◌, ◌++◌, Option, Some, None, refl, ap, append_assoc, ◌∙◌, sym}
-use Rattle.c_tree.specs.declared.program.Func.{Func}
-use Rattle.c_tree.specs.declared.program.Global.{Global}
+use Rattle.std.proofs.Common.{◌≡◌, ℕ, ◌+◌, add-zero, List, [], ◌∷◌, ◌++◌, refl, ap, sym}
 use Rattle.c_tree.specs.declared.unit.RawTop.{RawTop}
 use Rattle.c_tree.specs.declared.unit.RawTop.TheVariants as top
 use Rattle.c_tree.specs.Naming.{File, behind_top, known_funcs, funcs_of, globals_of}

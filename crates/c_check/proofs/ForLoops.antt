@@ -1,5 +1,5 @@
 -- A `for`: what its parts make, ask of and leave behind is what the whole does.
-use Rattle.std.proofs.Common.{◌≡◌, ℕ, List, ◌∷◌, ◌++◌, Option, option_map, refl, sym, ap, ◌∙◌}
+use Rattle.std.proofs.Common.{◌≡◌, ℕ, List, ◌++◌, Option, option_map, sym, ap, ◌∙◌}
 use Rattle.c_tree.specs.declared.tree.Expr.{Expr}
 use Rattle.c_tree.specs.declared.tree.Stmt.{Stmt}
 use Rattle.c_tree.specs.declared.tree.Stmt.TheVariants as stmt
@@ -9,11 +9,11 @@ use Rattle.c_tree.specs.declared.unit.RawStmt.{RawStmt}
 use Rattle.c_tree.specs.declared.unit.RawStmt.TheVariants.{For}
 use Rattle.c_tree.specs.Constants.{expr_of}
 use Rattle.c_tree.specs.Naming.{Scope, opened, looping, past, list_locals, behind, bound_number, stmt_of, stmts_of}
-use Rattle.c_tree.specs.Uses.{Use, Looped, expr_uses, stmt_uses, stmts_uses}
+use Rattle.c_tree.specs.Uses.{Looped, expr_uses, stmt_uses, stmts_uses}
 use Rattle.c_tree.specs.Refusals.{Refusal}
 use Rattle.c_check.specs.declared.checker.Outer.{Outer}
 use Rattle.c_check.specs.Verdicts.{after_use, after_uses}
-use Rattle.c_check.specs.Walks.{IsOuter, ended, option_behind, option_uses, option_locals}
+use Rattle.c_check.specs.Walks.{IsOuter, ended, option_behind, option_uses}
 use Rattle.c_check.proofs.Heard.{after_uses-cons, after_uses-append}
 use Rattle.c_check.proofs.StmtLayers.{stmt_of-For, stmt_uses-For, behind-For}
 use Rattle.c_check.proofs.Growth.{ended_for}

@@ -1,5 +1,5 @@
 -- The table of names: what a look-up finds after a declaration and after it is taken back.
-use Rattle.std.proofs.Common.{◌≡◌, ℕ, Bool, true, false, List, [], ◌∷◌, ◌++◌, map, Option, Some, None, option_map, refl, sym, ap, ◌∙◌, append_assoc}
+use Rattle.std.proofs.Common.{◌≡◌, ℕ, Bool, true, false, List, [], ◌∷◌, ◌++◌, Option, Some, None, option_map, refl, sym, ap, ◌∙◌, append_assoc}
 use Rattle.std.specs.Prelude.{bytes_eq, if◌then◌else◌}
 use Rattle.std.specs.Option.{option_or}
 use Rattle.std.specs.Ordering.{nat_cmp}
@@ -12,7 +12,7 @@ use denote.Ref.{Bor}
 use Rattle.c_tree.specs.Scopes as scope
 use Rattle.c_check.specs.declared.names.Binding.{Binding}
 use Rattle.c_check.specs.declared.names.Declaration.{Declaration}
-use Rattle.c_check.specs.Tables.{known, known_of, known_as, entity_of, last_binding, looked_up, Rebinds, HideAfter, IsTable}
+use Rattle.c_check.specs.Tables.{known, known_of, known_as, last_binding, Rebinds, HideAfter, IsTable}
 
 option_or-assoc : {A : Type 0} (a b c : Option A) → option_or (option_or a b) c ≡ option_or a (option_or b c)
 option_or-assoc None b c = refl

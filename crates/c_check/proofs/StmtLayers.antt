@@ -3,7 +3,6 @@ use Rattle.std.proofs.Common.{◌≡◌, ℕ, Bool, List, [], ◌∷◌, ◌++�
 use Rattle.std.specs.Prelude.{is_some}
 use Rattle.c_tree.specs.declared.tree.Ty.{Ty}
 use Rattle.c_tree.specs.declared.tree.BinOp.{BinOp}
-use Rattle.c_tree.specs.declared.tree.Stmt.{Stmt}
 use Rattle.c_tree.specs.declared.tree.Stmt.TheVariants as stmt
 use Rattle.c_tree.specs.declared.program.Local.{Local}
 use Rattle.c_tree.specs.declared.unit.Spot.{Spot}
@@ -20,7 +19,7 @@ use denote.Hole.Carrier.{hidden}
 use Rattle.c_tree.specs.Scopes.{entity_of, function_number}
 use Rattle.c_tree.specs.Constants.{expr_of, exprs_of, shape_length}
 use Rattle.c_tree.specs.Naming.{Scope, declared, opened, looping, past, stmt_locals, row_locals, held_locals, list_locals, behind, optional, place_of, declaration, target_of, bound_number, targeted, stmt_of, row_stmts, held_stmt, sole_stmt, held_behind, row_behind, stmts_of}
-use Rattle.c_tree.specs.Uses.{Use, Left, Looped, Returned, expr_uses, optional_uses, declarator_uses, place_uses, target_uses, has_target, call_uses, stmt_uses, row_stmt_uses, held_uses, stmts_uses}
+use Rattle.c_tree.specs.Uses.{Left, Looped, Returned, expr_uses, optional_uses, declarator_uses, place_uses, target_uses, has_target, call_uses, stmt_uses, row_stmt_uses, held_uses, stmts_uses}
 use Rattle.c_check.specs.Walks.{option_behind, option_uses, option_locals}
 
 append_nil : {A : Type 0} (xs : List A) → xs ++ [] ≡ xs

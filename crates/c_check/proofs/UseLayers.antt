@@ -9,7 +9,7 @@ use Rattle.c_tree.specs.declared.unit.RawExpr.TheVariants.{Num, Name, Elem, Un, 
 use Rattle.c_tree.specs.declared.unit.RawExpr.TheBlock.{shape-the_row-RawExpr-0, hidden-the_row-RawExpr-0}
 use denote.Hole.Carrier.{hidden}
 use Rattle.c_tree.specs.Scopes.{Known, entity_of}
-use Rattle.c_tree.specs.Uses.{Use, Read, expr_uses, row_uses}
+use Rattle.c_tree.specs.Uses.{Read, expr_uses, row_uses}
 
 pub expr_uses-Num : (ks : List Known) (at : ℕ) (t : Ty) (n : ℕ) → expr_uses ks (Num at t n) ≡ []
 unfolding expr_uses

@@ -1,6 +1,5 @@
 -- The first of the refusals that are heard of.
-use Rattle.std.specs.Prelude.{ℕ, Bool, ◌&&◌, ◌||◌, ◌==◌, nat_lt, if◌then◌else◌, List, [], ◌∷◌, ◌++◌, Option, Some, None, option_map}
-use Rattle.std.specs.List.{flat_map}
+use Rattle.std.specs.Prelude.{Bool, ◌&&◌, ◌||◌, ◌==◌, nat_lt, if◌then◌else◌, List, [], ◌∷◌, Option, Some, None, option_map}
 use Rattle.c_tree.specs.Uses.{Use}
 use Rattle.c_tree.specs.Refusals as spec
 use Rattle.c_tree.specs.Refusals.{number, faults_of}

@@ -1,5 +1,5 @@
 -- Where the walk over a function stands, and statements that may be there or not.
-use Rattle.std.specs.Prelude.{◌≡◌, ℕ, ◌+◌, Bool, List, [], ◌∷◌, ◌++◌, length, take, Option, Some, None, option_map}
+use Rattle.std.specs.Prelude.{◌≡◌, ◌+◌, Bool, List, [], length, take, Option, Some, None}
 use Rattle.c_tree.specs.declared.program.Local.{Local}
 use Rattle.c_tree.specs.declared.unit.RawStmt.{RawStmt}
 use Rattle.c_tree.specs.Naming.{Scope, behind, stmt_locals}

@@ -1,6 +1,5 @@
-use Rattle.std.proofs.Common.{◌≡◌, ◌++◌, ◌∷◌, [], ◌+◌, ◌^◌, ℕ, List, Some, Option, drop, sym, ap, ◌∙◌, arith}
-use Rattle.std.specs.Prelude.{slice_get, nat_lt}
-use Rattle.c_tree.specs.declared.unit.RawTop.{RawTop}
+use Rattle.std.proofs.Common.{◌∷◌, ◌+◌, ◌^◌, drop, sym, ap, ◌∙◌}
+use Rattle.std.specs.Prelude.{nat_lt}
 use Rattle.c_tree.specs.declared.unit.RawTop.TheVariants as top
 use Rattle.c_tree.specs.Refusals.{Span, where_true, wide}
 use Rattle.c_check.specs.Verdicts.{first_of, after_all}

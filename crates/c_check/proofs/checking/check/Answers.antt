@@ -1,4 +1,4 @@
-use Rattle.std.proofs.Common.{◌≡◌, ℕ, List, Some, None, Option, option_map, sym, ap, ◌∙◌, subst}
+use Rattle.std.proofs.Common.{ℕ, List, Option, option_map, sym, ap, subst}
 use Rattle.std.specs.Prelude.{IfSome}
 use Rattle.c_tree.specs.Refusals.{Refusal, IsRefused, Typed}
 use Rattle.c_check.specs.Verdicts.{refusal_of}

@@ -1,4 +1,4 @@
-use Rattle.std.proofs.Common.{◌≡◌, ◌++◌, None, ap, ◌∙◌}
+use Rattle.std.proofs.Common.{◌++◌, None, ap, ◌∙◌}
 use Rattle.std.specs.Prelude.{unwrap_or}
 use Rattle.c_tree.specs.declared.program.Program.{Program}
 use Rattle.c_tree.specs.Naming.{started, entry_number, funcs_of, globals_of, program_of}

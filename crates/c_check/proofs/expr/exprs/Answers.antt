@@ -1,4 +1,4 @@
-use Rattle.std.proofs.Common.{◌≡◌, ◌++◌, ◌∷◌, [], ◌+◌, drop, sym, ap, ◌∙◌, append_assoc, refl}
+use Rattle.std.proofs.Common.{◌++◌, ◌∷◌, [], ◌+◌, drop, sym, ap, ◌∙◌, append_assoc}
 use Rattle.c_tree.specs.Constants.{expr_of, exprs_of}
 use Rattle.c_tree.specs.Uses.{expr_uses, exprs_uses}
 use Rattle.c_check.specs.Verdicts.{first_of, after_uses}

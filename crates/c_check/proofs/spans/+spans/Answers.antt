@@ -1,4 +1,4 @@
-use Rattle.std.proofs.Common.{◌≡◌, ℕ, ◌+◌, ◌*◌, ◌∷◌, false, drop, sym, ap, ◌∙◌}
+use Rattle.std.proofs.Common.{◌+◌, ◌*◌, false, drop, sym, ap, ◌∙◌}
 use Rattle.c_tree.specs.Blocks.{is_simple}
 use Rattle.c_tree.specs.Spans.{span, list_span}
 use Rattle.c_tree.proofs.SpanLayers.{span-For}

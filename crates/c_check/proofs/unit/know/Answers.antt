@@ -1,4 +1,4 @@
-use Rattle.std.proofs.Common.{◌≡◌, ◌++◌, ◌+◌, [], ◌∷◌, drop, sym, ap, ◌∙◌, append_assoc}
+use Rattle.std.proofs.Common.{◌++◌, ◌+◌, [], ◌∷◌, drop, sym, ap, ◌∙◌, append_assoc}
 use Rattle.c_tree.specs.Naming.{known_funcs}
 use Rattle.c_check.specs.Files.{func_count}
 use Rattle.c_check.proofs.FileLayers.{known_funcs-cons}

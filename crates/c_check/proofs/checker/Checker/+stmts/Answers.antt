@@ -1,8 +1,6 @@
-use Rattle.std.proofs.Common.{◌≡◌, ◌++◌, ◌∷◌, [], ◌+◌, List, drop, sym, ap, ◌∙◌, append_assoc, refl}
+use Rattle.std.proofs.Common.{◌++◌, ◌∷◌, [], ◌+◌, drop, sym, ap, ◌∙◌, append_assoc}
 use Rattle.c_tree.specs.declared.tree.Stmt.TheVariants as stmt
-use Rattle.c_tree.specs.declared.unit.RawStmt.{RawStmt}
-use Rattle.c_tree.specs.declared.unit.RawStmt.TheVariants.{For}
-use Rattle.c_tree.specs.Naming.{Scope, past, list_locals, behind, stmt_of, stmts_of, list_behind}
+use Rattle.c_tree.specs.Naming.{past, list_locals, behind, stmt_of, stmts_of, list_behind}
 use Rattle.c_tree.specs.Uses.{stmt_uses, stmts_uses}
 use Rattle.c_check.specs.Verdicts.{first_of, after_uses}
 use Rattle.c_check.specs.Walks.{scope_of, ended}

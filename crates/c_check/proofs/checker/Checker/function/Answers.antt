@@ -1,8 +1,6 @@
-use Rattle.std.proofs.Common.{◌≡◌, ℕ, List, length, take, sym, ap, ◌∙◌}
-use Rattle.c_tree.specs.Scopes.{Known}
+use Rattle.std.proofs.Common.{ℕ, length, take, ap, ◌∙◌}
 use Rattle.c_tree.specs.Naming.{Scope, with_params, list_behind}
 use Rattle.c_check.specs.Entered.{entered}
-use Rattle.c_check.specs.Walks.{scope_of}
 use Rattle.c_check.proofs.Growth.{taken_back}
 use Rattle.c_check.proofs.checker.Checker.function.Goals as goal
 

@@ -1,7 +1,7 @@
-use Rattle.std.proofs.Common.{◌≡◌, ◌∷◌, ◌+◌, None, false, drop, sym, ap, ◌∙◌}
+use Rattle.std.proofs.Common.{◌+◌, None, false, drop, sym, ap, ◌∙◌}
 use Rattle.c_tree.specs.Naming.{declared, with_params}
 use Rattle.c_tree.specs.Uses.{declared_at, params_uses}
-use Rattle.c_check.specs.Verdicts.{first_of, after_use, after_uses}
+use Rattle.c_check.specs.Verdicts.{first_of, after_uses}
 use Rattle.c_check.specs.Walks.{scope_of}
 use Rattle.c_check.proofs.Heard.{after_uses-none, after_uses-cons}
 use Rattle.c_check.proofs.Steps.{next_item, no_items}

@@ -1,4 +1,4 @@
-use Rattle.std.proofs.Common.{◌≡◌, sym, ap, ◌∙◌, option_map}
+use Rattle.std.proofs.Common.{sym, ap, ◌∙◌, option_map}
 use Rattle.c_tree.specs.Scopes as scope
 use Rattle.c_check.specs.Tables.{known_as}
 use Rattle.c_check.proofs.NameTables.{latest-known}

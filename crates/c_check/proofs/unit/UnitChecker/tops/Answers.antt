@@ -1,4 +1,4 @@
-use Rattle.std.proofs.Common.{◌≡◌, ◌++◌, ◌∷◌, ◌+◌, [], drop, sym, ap, ◌∙◌, append_assoc}
+use Rattle.std.proofs.Common.{◌++◌, ◌+◌, drop, sym, ap, ◌∙◌, append_assoc}
 use Rattle.c_tree.specs.Naming.{behind_top, funcs_of, globals_of}
 use Rattle.c_tree.specs.Uses.{top_uses, tops_uses}
 use Rattle.c_check.specs.Verdicts.{first_of, after_uses}
