@@ -4,15 +4,16 @@ ghost use Rattle.std.specs.Prelude.{◌≡◌, IfOk, OnOk, [], option_map, unwra
 ghost use Rattle.c_tree.specs.Constants as spec;
 ghost use Rattle.std.specs.Option.{option_map_or};
 ghost use Rattle.c_tree.specs.Naming.{optional, kept_numbers, shape_values};
-ghost use Rattle.c_tree.specs.Uses.{expr_uses, exprs_uses, optional_uses, constant_uses, length_uses, list_uses, constants_uses};
+ghost use Rattle.c_tree.specs.Uses.{Read, expr_uses, exprs_uses, optional_uses, constant_uses, length_uses, list_uses, constants_uses};
+ghost use Rattle.c_tree.specs.Scopes as scope;
 ghost use Rattle.c_tree.specs.Scopes.{variable};
 ghost use Rattle.c_check.specs.Tables.{entity_of};
-ghost use Rattle.c_check.specs.Verdicts.{first_of, after_uses};
+ghost use Rattle.c_check.specs.Verdicts.{first_of, after_use, after_uses};
 
 use crate::constants;
 use crate::names::{Entity, Names};
 use crate::verdict::Verdict;
-use c_tree::{BinOp, Expr, NoMemory, RawExpr, RawShape, Ty, UnOp, Value};
+use c_tree::{BinOp, Expr, NoMemory, RawExpr, RawShape, Spot, Ty, UnOp, Value};
 use sqlite_items::{Boxed, Items};
 use std::alloc::Global;
 
@@ -54,6 +55,16 @@ fn choice(alloc: Global, c: Expr, a: Expr, b: Expr) -> Result<Expr, NoMemory>
     Ok(Expr::Cond(c, a, b))
 }
 
+// What a name that is read stands for, and whether an index follows it.
+fn read(names: &Names, verdict: &mut Verdict, x: &Spot, indexed: bool) -> Option<Entity>
+    ensures entity { option_map entity_of result ≡ scope.entity_of names.now x.now.name }
+    ensures first { first_of verdict.new ≡ after_use (first_of verdict.old) (Read x.now.at (scope.entity_of names.now x.now.name) indexed) }
+{
+    let entity = names.entity(x.name.as_slice());
+    verdict.read(x.at, entity, indexed);
+    entity
+}
+
 /// An expression with its names replaced.
 #[tactic(auto, using(crate::proofs::ConstantLayers::expr_layers, crate::proofs::UseLayers::expr_use_layers, crate::proofs::Heard::heard))]
 pub(crate) fn expr(
@@ -68,24 +79,16 @@ pub(crate) fn expr(
     match e {
         RawExpr::Num(_, ty, n) => Ok(Expr::Num(*ty, *n)),
         RawExpr::Name(x) => {
-            let entity = names.entity(x.name.as_slice());
-            verdict.read(x.at, entity, false);
+            let entity = read(names, verdict, x, false);
             Ok(Expr::Name(Entity::variable(entity)))
         }
         RawExpr::Elem(x, i) => {
-            let entity = names.entity(x.name.as_slice());
-            verdict.read(x.at, entity, true);
+            let entity = read(names, verdict, x, true);
             let i = expr(alloc, names, verdict, i.get())?;
             element(alloc, entity, i)
         }
-        RawExpr::Un(_, op, a) => {
-            let a = expr(alloc, names, verdict, a.get())?;
-            unary(alloc, *op, a)
-        }
-        RawExpr::Cast(_, ty, a) => {
-            let a = expr(alloc, names, verdict, a.get())?;
-            cast(alloc, *ty, a)
-        }
+        RawExpr::Un(_, op, a) => unary(alloc, *op, expr(alloc, names, verdict, a.get())?),
+        RawExpr::Cast(_, ty, a) => cast(alloc, *ty, expr(alloc, names, verdict, a.get())?),
         RawExpr::Bin(op, a, b) => {
             let a = expr(alloc, names, verdict, a.get())?;
             let b = expr(alloc, names, verdict, b.get())?;
