@@ -1,0 +1,5 @@
+use Rattle.typed_laws.proofs.FormedPrograms.{shaped_typed_formed}
+use Rattle.typed_laws.proofs.laws.typed.shaped_units_type_well.Goals as goal
+
+pub returns : goal.returns
+returns c = shaped_typed_formed

@@ -1,0 +1,4 @@
+//! What a program keeps that is typed from a unit which the tokens of some text spell.
+#![tactic(auto)]
+
+pub mod laws;
