@@ -1,0 +1,9 @@
+pub mod Declared
+pub mod Remains
+pub mod WorkLayers
+pub mod Steps
+pub mod Above
+pub mod TraceLength
+pub mod InputParts
+pub mod Exact
+pub mod CostRows

@@ -1,0 +1,35 @@
+use Rattle.std.proofs.Common.{◌≡◌, ◌<◌, ◌≤◌, ◌+◌, ◌-◌, ◌*◌, ◌%◌, ◌^◌, ℕ, suc, Bool, true, false, if◌then◌else◌, List, [], ◌∷◌, ◌++◌, length, Option, Some, None, option_map, refl, sym, ap, ◌∙◌, arith, IfOk, subst, rules}
+use Rattle.std.specs.Prelude.{slice_get, take, option_copied}
+use Rattle.c_tree.specs.declared.tree.Stmt.{Stmt}
+use Rattle.c_tree.specs.declared.tree.Stmt.TheVariants as stmt
+use Rattle.c_tree.specs.declared.tree.Target.TheVariants as target
+use Rattle.c_tree.specs.declared.value.Store.{Store}
+use Rattle.c_tree.specs.declared.value.Way.TheVariants as way
+use Rattle.c_tree.specs.Values.{is_true}
+use Rattle.c_tree.specs.Expressions.{val, all_values}
+use Rattle.c_tree.specs.Blocks.{blocks, list_blocks, is_simple}
+use Rattle.c_tree.specs.Statements.{Outcome, Ends, Undefined, OverBound, Gives, with_value, after, then_do, turn_do, entered, stored, simple, return_value, block, unset_target, give, come_back, call, exec, list_exec, held}
+use Rattle.c_tree.specs.Runs.{back, callee}
+use Rattle.c_tree.proofs.ExecLayers.{exec-Empty, exec-Scalar, exec-Array, exec-Assign, exec-Call, exec-Break, exec-Continue, exec-Return, exec-If, exec-While, exec-Do, exec-For, exec-Group}
+use Rattle.c_run.specs.declared.machine.Given.{Given}
+use Rattle.c_run.specs.declared.machine.Task.{Task}
+use Rattle.c_run.specs.declared.machine.Task.TheVariants as task
+use Rattle.c_run.specs.declared.machine.Pending.TheVariants as pending
+use Rattle.c_run.specs.Machine.{functions, over, step_of, turns_of, turns, entering, again_of, again, do_test, doing, behind, goes_on, past, onward, returned, state, ends_as, remains}
+use Rattle.c_run.specs.Work.{work, list_work, work_at, works_over, while_work, do_work, turn_work, again_work, task_work, pending_work, waiting_work, efforts, waiting, left}
+use Rattle.c_run.proofs.Remains.{turns_test, tested_none, tested_some}
+use Rattle.c_run.proofs.Steps.{entered_as, pushed_as, pushed, pushed_waiting, pushed_left, while_less, do_less, after_nothing, then_onward, turn_on, turn_past, then_nothing, come_back_is, come_from}
+use Rattle.c_run.proofs.WorkLayers.{work-Empty, work-Scalar, work-Array, work-Assign, work-Call, work-Break, work-Continue, work-Return, work-If, work-While, work-Do, work-For, work-Group}
+use Rattle.c_tree.specs.Stores.{with_locals}
+use Rattle.c_tree.specs.Runs.{entry_slots}
+use Rattle.c_run.proofs.machine.Machine.enter.Goals as goal
+
+pub returns-clause-same : goal.returns-clause-same
+unfolding doing behind
+returns-clause-same c =
+    let g = c.args.given in let m = c.args.self.now in let fs = g.program.now.funcs in let f = c.args.func in let h = c.args.callee.now in let before = record m { memory = c.replace_locals-locals.new.self } in let p = pending.Caller m.func c.args.target c.replace_locals-locals.result h.result in let waits = c.in_ok-wait.ensures in let s = c.wait.new.self.memory in let t = c.args.target in let start = waits.memory ∙ c.replace_locals-locals.ensures.new ∙ ap (with_locals m.memory) (c.in_ok-locals.ensures ∙ ap (λ ls. entry_slots ls c.args.values.now) c.as_slice.ensures) in let first : Store = record { locals = entry_slots h.locals c.args.values.now; globals = m.memory.globals } in let kept : Store = record { locals = c.replace_locals-locals.result.items; globals = [] } in let done = back h.result (list_exec (over fs f) f h.body 0 false first) in pushed_as g before c.wait.new.self p (list_exec (over fs f) f c.as_slice-2.result.now 0 false s) waits ∙ ap (λ xs. ends_as g m (come_back t kept (back h.result (list_exec (over fs f) f xs 0 false s)))) c.as_slice-2.ensures ∙ ap (λ s. ends_as g m (come_back t kept (back h.result (list_exec (over fs f) f h.body 0 false s)))) start ∙ ap (λ ls. ends_as g m (come_back t (record { locals = ls; globals = [] }) done)) c.replace_locals-locals.ensures.old ∙ ap (ends_as g m) (come_from t m.memory done)
+
+pub returns-clause-less : goal.returns-clause-less
+unfolding task_work pending_work
+returns-clause-less c =
+    let g = c.args.given in let m = c.args.self.now in let fs = g.program.now.funcs in let f = c.args.func in let h = c.args.callee.now in let before = record m { memory = c.replace_locals-locals.new.self } in let p = pending.Caller m.func c.args.target c.replace_locals-locals.result h.result in let waits = c.in_ok-wait.ensures in let more = pushed_waiting g before c.wait.new.self p waits in let body = ap (list_work (works_over fs f)) c.as_slice-2.ensures in omega (arith, more, body)

@@ -1,0 +1,34 @@
+use Rattle.std.proofs.Common.{◌≡◌, ◌≤◌, ◌<◌, ℕ, ◌+◌, ◌-◌, List, [], ◌∷◌, ◌++◌, drop, length, get_or, Option, Some, None, refl, sym, ap, ◌∙◌, subst, arith, IfOk, false, append-nil}
+use Rattle.std.specs.Prelude.{IsTrue, slice_get}
+use Rattle.std.proofs.Math.ListN.{drop_of_length-le}
+use Rattle.std.proofs.lemmas.Option.{slice_get_read, slice_get-get_or}
+use Rattle.c_tree.specs.declared.tree.Ty.TheVariants as ty
+use Rattle.c_tree.specs.Values.{is_of, of_int}
+use Rattle.c_tree.specs.Runs.{are_of, input_types, outer_types, entry_types, entry_slots, param_types, arguments, global_slots, run}
+use Rattle.c_tree.specs.WellFormed.{WellFormedGlobals}
+use Rattle.c_run.specs.Starts.{NumberAt, Takes, own_width, own_slot}
+use Rattle.c_run.proofs.InputParts.{number_at, rest_fits, first_takes, rest_takes, drop_is, drop_none, arguments_none, params_none, params_step, numbers_at, map_step, slots_step}
+use Rattle.c_run.specs.Ends.{ended}
+use Rattle.c_run.specs.Machine.{begun, entered, doing}
+use Rattle.c_run.specs.declared.machine.Given.{Given}
+use Rattle.c_run.proofs.Exact.{cost_fits, ended_is, run_none, run_some, begins}
+use Rattle.c_run.proofs.runs.run.Goals as goal
+
+pub returns-in-None : goal.returns-in-None
+returns-in-None c =
+    sym (ap (ended c.args.costs.now) (run_none c.args.program.now c.args.input.now (sym c.in-None.ensures.value)))
+
+pub start-requires : goal.start-requires
+start-requires c =
+    record { formed = c.requires.formed; entry = sym c.in-Some.ensures.value; fits = subst (λ zs. IsTrue (are_of (input_types c.args.program.now) zs)) (sym c.as_slice.ensures) c.requires.fits }
+
+pub returns-in-Some : goal.returns-in-Some
+returns-in-Some c =
+    let p = c.args.program.now in
+    let t = c.args.costs.now in
+    let i = c.args.input.now in
+    let h = c.in-Some.entry.now in
+    let g : Given = record { alloc = c.args.alloc; program = c.args.program; costs = c.args.costs } in
+    let there : slice_get p.funcs p.entry ≡ Some h = sym c.in-Some.ensures.value in
+    let is = run_some p i h there in
+    subst (λ x. IfOk c.start.result (λ e. e ≡ x)) (ap (begun g h) c.as_slice.ensures ∙ ended_is t h.result _ (λ u e. cost_fits p t c.requires.formed c.costs_are_small.ensures i u (is ∙ e)) ∙ ap (ended t) (sym is)) c.start.ensures

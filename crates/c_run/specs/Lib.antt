@@ -1,0 +1,5 @@
+pub mod Changed
+pub mod Machine
+pub mod Work
+pub mod Starts
+pub mod Ends
