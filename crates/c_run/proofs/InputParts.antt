@@ -11,7 +11,7 @@ use Rattle.c_tree.specs.Runs.{are_of, types_of, outer_types, param_types, argume
 use Rattle.c_tree.specs.WellFormed.{AreNumbersOf}
 use Rattle.c_run.specs.Starts.{NumberAt, width, Takes, own_width, own_slot, rest_of, own_types}
 
-both : (a b : Bool) → IsTrue (a && b) → IsTrue a × IsTrue b
+pub both : (a b : Bool) → IsTrue (a && b) → IsTrue a × IsTrue b
 both true true h = (refl, refl)
 both true false h = absurd cc
 both false b h = absurd cc

@@ -7,3 +7,7 @@ pub mod TraceLength
 pub mod InputParts
 pub mod Exact
 pub mod CostRows
+pub mod InputLeads
+pub mod NumberTexts
+pub mod InputSteps
+pub mod InputRead

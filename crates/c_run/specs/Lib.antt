@@ -3,3 +3,5 @@ pub mod Machine
 pub mod Work
 pub mod Starts
 pub mod Ends
+pub mod InputTexts
+pub mod Reading

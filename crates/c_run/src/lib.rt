@@ -6,10 +6,12 @@ mod calls;
 mod expressions;
 mod fitting;
 mod inputs;
+mod leads;
 mod loops;
 mod machine;
 mod memory;
 mod operators;
+mod reading;
 mod run_end;
 mod runs;
 mod simple;
@@ -17,7 +19,10 @@ mod statements;
 #[cfg(test)]
 mod tests;
 mod values;
+mod writing;
 
 pub use fitting::fits;
+pub use reading::read_input;
 pub use run_end::RunEnd;
 pub use runs::run;
+pub use writing::input_text;
