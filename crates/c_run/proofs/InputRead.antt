@@ -6,7 +6,7 @@ use Rattle.c_tree.specs.Runs.{fits}
 use Rattle.c_run.specs.InputTexts.{input_leads, led, input_text, IsInputOf}
 use Rattle.c_run.specs.Reading.{Suits}
 use Rattle.c_run.proofs.InputLeads.{fitting_suits}
-use Rattle.c_run.proofs.InputSteps.{none_some, some_same}
+use Rattle.c_run.proofs.InputSteps.{none_some, some_same, same_numbers}
 
 -- the numbers found are those of each fitting input that has this text
 abbrev pub Finds : Program → List ℕ → Option (List ℤ) → Type 0
@@ -36,7 +36,7 @@ checked_read p bytes text values found (Ok answer) told is same h =
 checked_read p bytes text values found (Err e) told is same h = tt
 
 -- a text is that of one fitting input at most
-pub one_input : (p : Program) (i j : Input) (found : Option (List ℤ)) → Finds p (input_text p i) found → IsTrue (fits p i) → IsTrue (fits p j) → input_text p j ≡ input_text p i → i ≡ j
-one_input p i j found told fit_i fit_j same =
-    let values = some_same found i.values j.values (told i fit_i refl) (told j fit_j same) in
+pub one_input : (p : Program) (i j : Input) → IsTrue (fits p i) → IsTrue (fits p j) → input_text p i ≡ input_text p j → i ≡ j
+one_input p i j fit_i fit_j same =
+    let values = same_numbers (input_leads p) i.values j.values (fitting_suits p i fit_i) (fitting_suits p j fit_j) same in
     ap (λ vs. record { values = vs }) values

@@ -5,7 +5,7 @@ use Rattle.std.specs.Int.{w64}
 use Rattle.std.specs.List.{prefix_len}
 use Rattle.std.specs.Result.{result_ok}
 use Rattle.std.specs.Str.Parse.{ParsesSigned}
-use Rattle.std.proofs.lemmas.Fmt.{parse-signed_decimal, IsAscii-signed}
+use Rattle.std.proofs.lemmas.Fmt.{parse-signed_decimal, IsAscii-signed, signed_decimal_injective}
 use Rattle.std.proofs.lemmas.Str.{IsUtf8-from_ascii}
 use Rattle.std.proofs.lemmas.Int.{to_z-of_z}
 use Rattle.std.specs.Str.{IsUtf8}
@@ -148,3 +148,31 @@ nothing_left (z ∷ zs) h = absurd h
 pub read_all : (ls : List (List ℕ)) (values zs : List ℤ) (rest : List ℕ) → ls ≡ [] → Remains ls values rest zs → zs ≡ values
 read_all ls values zs rest none r =
     r.whole ∙ ap (λ later. values ++ later) (nothing_left r.later (subst (λ ls. Suits ls r.later) none r.suits)) ∙ append-nil values
+
+-- ---- one text, one list of numbers
+
+signed_same : (y z : ℤ) → IsSmall y → IsSmall z → signed_decimal y ≡ signed_decimal z → y ≡ z
+signed_same (pos m) (pos n) small_y small_z e = signed_decimal_injective (pos m) (pos n) (omega (arith, small_y)) (omega (arith, small_z)) e
+signed_same (pos m) (negsuc n) small_y small_z e = signed_decimal_injective (pos m) (negsuc n) (omega (arith, small_y)) (omega (arith, small_z)) e
+signed_same (negsuc m) (pos n) small_y small_z e = signed_decimal_injective (negsuc m) (pos n) (omega (arith, small_y)) (omega (arith, small_z)) e
+signed_same (negsuc m) (negsuc n) small_y small_z e = signed_decimal_injective (negsuc m) (negsuc n) (omega (arith, small_y)) (omega (arith, small_z)) e
+
+first_same : (label : List ℕ) (y z : ℤ) (more others : List ℕ) → IsSmall y → IsSmall z → IsApart more → IsApart others → label ++ signed_decimal y ++ more ≡ label ++ signed_decimal z ++ others → (y ≡ z) × (drop 1 more ≡ drop 1 others)
+first_same label y z more others small_y small_z apart apart' e =
+    let text = label ++ signed_decimal y ++ more in
+    let behind = drop (length label) text in
+    let end = prefix_len goes_on behind in
+    let one = number_found y more behind end small_y apart (behind_label label (signed_decimal y) more text behind (length label) refl refl refl) refl in
+    let two = number_found z others behind end small_z apart' (behind_label label (signed_decimal z) others text behind (length label) refl e refl) refl in
+    (signed_same y z small_y small_z (sym one.0 ∙ two.0), sym one.1 ∙ two.1)
+
+pub same_numbers : (ls : List (List ℕ)) (ys zs : List ℤ) → Suits ls ys → Suits ls zs → drop 1 (led ls ys) ≡ drop 1 (led ls zs) → ys ≡ zs
+same_numbers [] [] [] h k e = refl
+same_numbers [] (y ∷ ys) zs h k e = absurd h
+same_numbers [] [] (z ∷ zs) h k e = absurd k
+same_numbers (l ∷ ls) [] zs h k e = absurd h
+same_numbers (l ∷ ls) (y ∷ ys) [] h k e = absurd k
+same_numbers ([] ∷ ls) (y ∷ ys) (z ∷ zs) h k e = absurd h.0
+same_numbers ((c ∷ label) ∷ ls) (y ∷ ys) (z ∷ zs) h k e =
+    let first = first_same label y z (led ls ys) (led ls zs) h.1.0 k.1.0 (led_apart ls ys h.1.1) (led_apart ls zs k.1.1) e in
+    ap (λ y. y ∷ ys) first.0 ∙ ap (λ zs. z ∷ zs) (same_numbers ls ys zs h.1.1 k.1.1 first.1)

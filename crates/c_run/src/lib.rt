@@ -6,6 +6,7 @@ mod calls;
 mod expressions;
 mod fitting;
 mod inputs;
+mod law;
 mod leads;
 mod loops;
 mod machine;
@@ -22,6 +23,7 @@ mod values;
 mod writing;
 
 pub use fitting::fits;
+pub use law::one_input;
 pub use reading::read_input;
 pub use run_end::RunEnd;
 pub use runs::run;
