@@ -97,9 +97,10 @@ behind_label label number more text behind count long is dropped =
 
 pub number_found : (z : ℤ) (more behind : List ℕ) (end : ℕ) → IsSmall z → IsApart more → behind ≡ signed_decimal z ++ more → end ≡ prefix_len goes_on behind → (take end behind ≡ signed_decimal z) × (drop (end + 1) behind ≡ drop 1 more)
 number_found z more behind end small apart is found =
-    let long : end ≡ length (signed_decimal z) = found ∙ ap (prefix_len goes_on) is ∙ number_ends z more small apart in
-    (ap (λ n. take n behind) long ∙ ap (take (length (signed_decimal z))) is ∙ take_front (signed_decimal z) more,
-     ap (λ n. drop (n + 1) behind) long ∙ ap (drop (length (signed_decimal z) + 1)) is ∙ drop_past (signed_decimal z) more)
+    let long : end ≡ length (signed_decimal z) = found ∙ ap (prefix_len goes_on) is ∙ number_ends z more small apart in (
+      ap (λ n. take n behind) long ∙ ap (take (length (signed_decimal z))) is ∙ take_front (signed_decimal z) more,
+      ap (λ n. drop (n + 1) behind) long ∙ ap (drop (length (signed_decimal z) + 1)) is ∙ drop_past (signed_decimal z) more,
+    )
 
 -- ---- reading the numbers
 

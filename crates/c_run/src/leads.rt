@@ -10,10 +10,7 @@ use sqlite_items::Items;
 use std::alloc::Global;
 
 /// The bytes that stand before each input number of a program, in order.
-pub(crate) fn input_leads(
-    alloc: Global,
-    program: &Program,
-) -> Result<Items<Items<u8>>, NoMemory>
+pub(crate) fn input_leads(alloc: Global, program: &Program) -> Result<Items<Items<u8>>, NoMemory>
     ensures { IfOk result (λ ls. ls ≡ spec.input_leads program.now) }
 {
     let mut leads = Items::new(alloc);
@@ -107,11 +104,7 @@ fn first_lead(alloc: Global, name: &Name) -> Result<Items<u8>, NoMemory>
     Ok(Items::from_vec(lead))
 }
 
-fn push_commas(
-    alloc: Global,
-    leads: &mut Items<Items<u8>>,
-    count: usize,
-) -> Result<(), NoMemory>
+fn push_commas(alloc: Global, leads: &mut Items<Items<u8>>, count: usize) -> Result<(), NoMemory>
     ensures { OnOk result (leads.new ≡ leads.old ++ replicate count (codes ",")) }
 {
     for _at in 0..count {

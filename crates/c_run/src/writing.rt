@@ -21,11 +21,7 @@ pub fn input_text(alloc: Global, program: &Program, input: &Input) -> Result<Vec
     text_of(alloc, program, input)
 }
 
-pub(crate) fn text_of(
-    alloc: Global,
-    program: &Program,
-    input: &Input,
-) -> Result<Vec<u8>, NoMemory>
+pub(crate) fn text_of(alloc: Global, program: &Program, input: &Input) -> Result<Vec<u8>, NoMemory>
     ensures { IfOk result (λ t. t.items ≡ spec.input_text program.now input.now) }
 {
     let leads = input_leads(alloc, program)?;
