@@ -11,7 +11,7 @@ use c_tree::{Func, Global as Outside, Input, Local, Program, Ty};
 /// Whether an input has as many numbers as the program asks for, each in its type's range: first those of the entry
 /// function's parameters in order, then those of the `extern` variables, an array element by element. Takes no memory.
 pub fn fits(program: &Program, input: &Input) -> bool
-    ensures { result ≡ spec.fits program.now input.now }
+    ensures fits { result ≡ spec.fits program.now input.now }
 {
     let entry = program.funcs.get(program.entry as usize);
     match behind_entry(entry, input.values.as_slice()) {

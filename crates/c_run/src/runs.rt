@@ -28,7 +28,7 @@ pub fn run(
     requires formed { WellFormed program.now }
     requires costs { AreCostsOf program.now costs.now }
     requires fits { IsTrue (spec.fits program.now input.now) }
-    ensures { IfOk result (λ e. e ≡ ended costs.now (spec.run program.now input.now)) }
+    ensures end { IfOk result (λ e. e ≡ ended costs.now (spec.run program.now input.now)) }
 {
     costs_are_small(costs);
     match program.funcs.get(program.entry as usize) {

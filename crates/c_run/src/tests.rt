@@ -272,12 +272,9 @@ fn calls_need_no_stack(rt: HostRuntime) -> Result<(), Fail> {
     Ok(())
 }
 
-/// A program that is only asked for its inputs: the parameters are all `int`.
-fn asking(alloc: Global, names: &[&[u8]]) -> Made<Program> {
-    program(
-        alloc,
-        func(alloc, names.len() as u32, names, Items::new(alloc))?,
-    )
+/// A program that is only asked for its inputs: so many parameters, all `int`.
+fn asking(alloc: Global, params: u32, names: &[&[u8]]) -> Made<Program> {
+    program(alloc, func(alloc, params, names, Items::new(alloc))?)
 }
 
 fn outside(alloc: Global, name: &[u8], ty: Ty, length: Option<u32>, outer: bool) -> Made<Outside> {
@@ -294,7 +291,7 @@ fn outside(alloc: Global, name: &[u8], ty: Ty, length: Option<u32>, outer: bool)
 #[test]
 fn one_number_is_read_as_it_is_written(rt: HostRuntime) -> Result<(), Fail> {
     let alloc = rt.alloc();
-    let program = asking(alloc, &[b"x"])?;
+    let program = asking(alloc, 1, &[b"x"])?;
     for (text, wanted) in [
         ("x=5", Some(5)),
         ("x=-2147483648", Some(-2_147_483_648)),
@@ -333,7 +330,7 @@ fn text_of_fitting(alloc: Global, program: &Program, input: &Input) -> Result<Ve
 
 /// `extern unsigned a[3]; int g; extern int b; int main(int x, int y) { }`
 fn asking_of_all_sorts(alloc: Global) -> Made<Program> {
-    let mut program = asking(alloc, &[b"x", b"y"])?;
+    let mut program = asking(alloc, 2, &[b"x", b"y"])?;
     let a = outside(alloc, b"a", Ty::Unsigned, Some(3), true)?;
     program.globals.push(a)?;
     let g = outside(alloc, b"g", Ty::Int, None, false)?;
@@ -372,7 +369,7 @@ fn variables_stand_in_order(rt: HostRuntime) -> Result<(), Fail> {
 #[test]
 fn no_inputs_have_the_empty_text(rt: HostRuntime) -> Result<(), Fail> {
     let alloc = rt.alloc();
-    let program = asking(alloc, &[])?;
+    let program = asking(alloc, 0, &[])?;
     assert!(rt; read_input(alloc, &program, "")?.is_some());
     assert!(rt; read_input(alloc, &program, " ")?.is_none());
     let input = Input {

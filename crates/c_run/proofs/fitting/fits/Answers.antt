@@ -14,7 +14,7 @@ returns-in-None c =
     let o = option_copied c.get-entry.result in
     let zs = c.as_slice.result.now in
     let whole = ap (λ o. are_of (entry_types o ++ us) zs) c.get-entry.ensures.value ∙ ap (λ zs. are_of (entry_types (slice_get p.funcs p.entry) ++ us) zs) c.as_slice.ensures in
-    entry_none (entry_types o) us zs c.in-None.ensures ∙ whole
+    record { fits = entry_none (entry_types o) us zs c.in-None.ensures ∙ whole }
 
 pub returns-in-Some : goal.returns-in-Some
 returns-in-Some c =
@@ -23,4 +23,4 @@ returns-in-Some c =
     let o = option_copied c.get-entry.result in
     let zs = c.as_slice.result.now in
     let whole = ap (λ o. are_of (entry_types o ++ us) zs) c.get-entry.ensures.value ∙ ap (λ zs. are_of (entry_types (slice_get p.funcs p.entry) ++ us) zs) c.as_slice.ensures in
-    c.fit_globals.ensures ∙ ap (λ gs. are_of (outer_types gs) c.in-Some.rest.now) c.as_slice-in-Some.ensures ∙ entry_some (entry_types o) us zs c.in-Some.rest.now c.in-Some.ensures ∙ whole
+    record { fits = c.fit_globals.ensures ∙ ap (λ gs. are_of (outer_types gs) c.in-Some.rest.now) c.as_slice-in-Some.ensures ∙ entry_some (entry_types o) us zs c.in-Some.rest.now c.in-Some.ensures ∙ whole }

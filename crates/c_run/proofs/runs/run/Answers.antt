@@ -16,7 +16,7 @@ use Rattle.c_run.proofs.runs.run.Goals as goal
 
 pub returns-in-None : goal.returns-in-None
 returns-in-None c =
-    sym (ap (ended c.args.costs.now) (run_none c.args.program.now c.args.input.now (sym c.in-None.ensures.value)))
+    record { end = sym (ap (ended c.args.costs.now) (run_none c.args.program.now c.args.input.now (sym c.in-None.ensures.value))) }
 
 pub start-requires : goal.start-requires
 start-requires c =
@@ -31,4 +31,4 @@ returns-in-Some c =
     let g : Given = record { alloc = c.args.alloc; program = c.args.program; costs = c.args.costs } in
     let there : slice_get p.funcs p.entry ≡ Some h = sym c.in-Some.ensures.value in
     let is = run_some p i h there in
-    subst (λ x. IfOk c.start.result (λ e. e ≡ x)) (ap (begun g h) c.as_slice.ensures ∙ ended_is t h.result _ (λ u e. cost_fits p t c.requires.formed c.costs_are_small.ensures i u (is ∙ e)) ∙ ap (ended t) (sym is)) c.start.ensures
+    record { end = subst (λ x. IfOk c.start.result (λ e. e ≡ x)) (ap (begun g h) c.as_slice.ensures ∙ ended_is t h.result _ (λ u e. cost_fits p t c.requires.formed c.costs_are_small.ensures i u (is ∙ e)) ∙ ap (ended t) (sym is)) c.start.ensures }
