@@ -1,5 +1,5 @@
 -- The run of a well-formed program has the cost of its trace exactly, since that is less than 2^128.
-use Rattle.std.proofs.Common.{◌≡◌, ◌<◌, ◌≤◌, ℕ, zero, suc, ◌+◌, ◌*◌, ◌%◌, ◌^◌, false, List, [], ◌∷◌, ◌++◌, take, drop, length, Option, Some, None, option_map, refl, subst, sym, ap, ◌∙◌, arith, append_assoc, append-nil, zero-add}
+use Rattle.std.proofs.Common.{◌≡◌, ◌<◌, ◌≤◌, ℕ, zero, suc, ◌+◌, ◌*◌, ◌%◌, ◌^◌, false, List, [], ◌∷◌, ◌++◌, drop, length, Option, Some, None, option_map, refl, subst, sym, ap, ◌∙◌, arith, append_assoc, append-nil, zero-add}
 use Rattle.std.specs.Prelude.{slice_get}
 use Rattle.std.proofs.lemmas.List.Sums.{sum_by-append}
 use Rattle.std.proofs.Math.Nat.{add-mod-mod, mod-eq_of_lt}
@@ -21,7 +21,6 @@ use Rattle.c_tree.specs.Spans.{span_at, func_span, spans}
 use Rattle.c_tree.specs.Layouts.{Shape}
 use Rattle.c_tree.specs.WellFormed.{WellFormedFuncs, WellFormed}
 use Rattle.c_tree.proofs.Callees.{callee_at}
-use Rattle.c_run.specs.declared.run_end.RunEnd.{RunEnd}
 use Rattle.c_run.specs.declared.run_end.RunEnd.TheVariants as end
 use Rattle.c_run.specs.declared.machine.Machine.{Machine}
 use Rattle.c_run.specs.declared.machine.Given.{Given}

@@ -1,5 +1,5 @@
 -- A lead stands before each number of a fitting input.
-use Rattle.std.proofs.Common.{◌≡◌, ◌≤◌, ◌<◌, ℕ, zero, suc, Bool, true, false, if◌then◌else◌, List, [], ◌∷◌, ◌++◌, replicate, codes, Option, Some, None, IsTrue, ◌&&◌, ◌^◌, unwrap_or, ℤ, pos, negsuc, unsigned_abs, slice_get, refl, ap, subst, arith, rules, inl, inr}
+use Rattle.std.proofs.Common.{ℕ, zero, suc, Bool, true, false, if◌then◌else◌, List, [], ◌∷◌, ◌++◌, replicate, codes, Option, Some, None, IsTrue, ◌^◌, unwrap_or, ℤ, pos, negsuc, slice_get, refl, arith, inl, inr}
 use Rattle.std.proofs.lemmas.Bool.{ltb-true}
 use Rattle.c_tree.specs.declared.tree.Ty.{Ty}
 use Rattle.c_tree.specs.declared.tree.Ty.TheVariants as ty

@@ -1,5 +1,5 @@
 -- Writing and reading the text of an input, a number at a time.
-use Rattle.std.proofs.Common.{◌≡◌, ◌≤◌, ◌<◌, ◌+◌, ◌-◌, ℕ, zero, suc, Bool, true, false, if◌then◌else◌, List, [], ◌∷◌, ◌++◌, length, take, drop, min, replicate, codes, Option, Some, None, Result, Ok, Err, MatchResult, Bor, ℤ, pos, negsuc, unsigned_abs, IsTrue, FitsSigned, to_z, of_z, slice_get, refl, sym, ap, ◌∙◌, subst, arith, rules, append_assoc, append-nil, length-append}
+use Rattle.std.proofs.Common.{◌≡◌, ◌+◌, ◌-◌, ℕ, zero, suc, Bool, true, false, if◌then◌else◌, List, [], ◌∷◌, ◌++◌, length, take, drop, Option, Some, None, Result, Ok, Err, MatchResult, Bor, ℤ, pos, negsuc, to_z, of_z, slice_get, refl, sym, ap, ◌∙◌, subst, arith, append_assoc, append-nil}
 use Rattle.std.specs.Fmt.{signed_decimal}
 use Rattle.std.specs.Int.{w64}
 use Rattle.std.specs.List.{prefix_len}

@@ -1,13 +1,13 @@
 -- Where the text of a number ends.
-use Rattle.std.proofs.Common.{◌≡◌, ◌≤◌, ◌<◌, ◌+◌, ◌-◌, ℕ, zero, suc, ◌^◌, Bool, true, false, cond, not, ◌||◌, ◌==◌, List, [], ◌∷◌, ◌++◌, length, take, drop, min, Option, Some, None, ℤ, pos, negsuc, unsigned_abs, IsTrue, ◌⊎◌, refl, sym, ap, ◌∙◌, arith, rules, inl, inr, decimal, append_assoc}
+use Rattle.std.proofs.Common.{◌≡◌, ◌<◌, ◌+◌, ℕ, suc, true, false, cond, List, [], ◌∷◌, ◌++◌, length, ℤ, pos, negsuc, ◌⊎◌, refl, ap, ◌∙◌, arith, inl, inr, decimal}
 use Rattle.std.specs.Fmt.{signed_decimal}
 use Rattle.std.specs.Char.{digit_value}
-use Rattle.std.specs.List.{prefix_len, list_all}
+use Rattle.std.specs.List.{prefix_len}
 use Rattle.std.specs.Str.Parse.{AllDigits, digits_value}
 use Rattle.std.proofs.lemmas.Str.Parse.{IsNumeralModel, numerals_by_value, tells_digits, digit_from_value}
 use Rattle.std.proofs.lemmas.Fmt.{digits_decimal}
 use Rattle.c_run.specs.InputTexts.{led}
-use Rattle.c_run.specs.Reading.{goes_on, IsLead, IsSmall, IsApart, Suits}
+use Rattle.c_run.specs.Reading.{goes_on, IsSmall, IsApart, Suits}
 
 own : IsNumeralModel (AllDigits 10) (digits_value 10)
 own = numerals_by_value (AllDigits 10) tells_digits

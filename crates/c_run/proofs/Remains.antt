@@ -1,5 +1,5 @@
 -- What is left of a run: the cost of blocks that are entered, and what comes to wait.
-use Rattle.std.proofs.Common.{◌≡◌, ℕ, zero, suc, ◌+◌, ◌%◌, ◌^◌, ◌<◌, Bool, true, false, if◌then◌else◌, List, [], ◌∷◌, ◌++◌, Option, Some, None, option_map, refl, sym, ap, ◌∙◌, arith, append_assoc, append-nil, add_assoc, zero-add}
+use Rattle.std.proofs.Common.{◌≡◌, ℕ, zero, suc, ◌+◌, ◌%◌, ◌^◌, ◌<◌, Bool, false, if◌then◌else◌, List, [], ◌∷◌, ◌++◌, Option, Some, None, option_map, refl, sym, ap, ◌∙◌, arith, append_assoc, add_assoc}
 use Rattle.std.proofs.lemmas.List.Sums.{sum_by-append}
 use Rattle.std.proofs.Math.Nat.{mod-add-mod, add-mod-mod, mod-eq_of_lt}
 use Rattle.c_tree.specs.declared.tree.Ty.{Ty}
@@ -15,17 +15,16 @@ use Rattle.c_tree.specs.declared.value.Slot.{Slot}
 use Rattle.c_tree.specs.Stores.{with_globals}
 use Rattle.c_tree.specs.Values.{is_true}
 use Rattle.c_tree.specs.Expressions.{val}
-use Rattle.c_tree.specs.Statements.{Back, Outcome, Ends, Undefined, OverBound, with_value, after, then_do, turn_do, block, while_turns, do_turns, come_back, give, list_exec}
-use Rattle.c_tree.specs.Statements.{Callee, Gives, Lost}
+use Rattle.c_tree.specs.Statements.{Outcome, Ends, Undefined, OverBound, with_value, after, then_do, turn_do, block, come_back, give, list_exec}
+use Rattle.c_tree.specs.Statements.{Callee, Gives}
 use Rattle.c_tree.specs.Runs.{result_of, back}
 use Rattle.c_tree.specs.Claims.{cost, block_cost}
 use Rattle.c_run.specs.declared.run_end.RunEnd.{RunEnd}
 use Rattle.c_run.specs.declared.run_end.RunEnd.TheVariants as end
 use Rattle.c_run.specs.declared.machine.Loop.{Loop}
-use Rattle.c_run.specs.declared.machine.DoLoop.{DoLoop}
 use Rattle.c_run.specs.declared.machine.Pending.{Pending}
 use Rattle.c_run.specs.declared.machine.Pending.TheVariants as pending
-use Rattle.c_run.specs.Machine.{costed, dearer, over, step_of, turns_of, turns, entering, again_of, again, do_test, behind, finished, state}
+use Rattle.c_run.specs.Machine.{costed, dearer, over, step_of, turns_of, turns, entering, do_test, behind, finished, state}
 
 -- ---- cost
 

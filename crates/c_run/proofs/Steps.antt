@@ -1,30 +1,26 @@
 -- One step of the machine: a block is entered, or one more waits.
-use Rattle.std.proofs.Common.{◌≡◌, ℕ, zero, suc, ◌+◌, ◌*◌, ◌%◌, ◌^◌, ◌<◌, ◌≤◌, Bool, true, false, if◌then◌else◌, List, [], ◌∷◌, ◌++◌, length, Option, Some, None, refl, sym, ap, ◌∙◌, arith, append-nil}
+use Rattle.std.proofs.Common.{◌≡◌, ℕ, zero, suc, ◌+◌, ◌*◌, ◌%◌, ◌^◌, ◌<◌, ◌≤◌, Bool, true, false, List, [], ◌∷◌, ◌++◌, Option, refl, sym, ap, ◌∙◌, arith, append-nil}
 use Rattle.c_tree.specs.declared.tree.Ty.{Ty}
 use Rattle.std.specs.Prelude.{option_copied}
 use Rattle.c_tree.specs.declared.tree.Expr.{Expr}
 use Rattle.c_tree.specs.declared.tree.Stmt.{Stmt}
 use Rattle.c_tree.specs.declared.tree.Target.{Target}
 use Rattle.c_tree.specs.declared.tree.Stmt.TheVariants.{Empty, Scalar, Array, Assign, Call, Break, Continue, Return, If', While', Do', For', Group'}
-use Rattle.c_tree.specs.declared.program.BlockName.{BlockName}
 use Rattle.c_tree.specs.declared.program.Func.{Func}
 use Rattle.c_tree.specs.declared.value.Slot.{Slot}
-use Rattle.c_tree.specs.declared.value.Value.{Value}
 use Rattle.c_tree.specs.declared.value.Store.{Store}
 use Rattle.c_tree.specs.declared.value.Way.{Way}
 use Rattle.c_tree.specs.declared.value.Way.TheVariants as way
-use Rattle.c_tree.specs.Blocks.{blocks, list_blocks, is_simple}
+use Rattle.c_tree.specs.Blocks.{list_blocks, is_simple}
 use Rattle.c_tree.specs.Statements.{Callee, Back, Gives, Lost, Outcome, Ends, Undefined, OverBound, after, then_do, turn_do, block, while_turns, entered, stored, simple, come_back, list_exec, exec, held}
 use Rattle.c_tree.specs.Runs.{back}
 use Rattle.c_tree.specs.Claims.{block_cost}
 use Rattle.c_run.specs.declared.machine.Loop.{Loop}
-use Rattle.c_run.specs.declared.machine.DoLoop.{DoLoop}
 use Rattle.c_run.specs.declared.machine.Task.{Task}
-use Rattle.c_run.specs.declared.machine.Task.TheVariants as task
 use Rattle.c_run.specs.declared.machine.Pending.{Pending}
 use Rattle.c_run.specs.declared.machine.Machine.{Machine}
 use Rattle.c_run.specs.declared.machine.Given.{Given}
-use Rattle.c_run.specs.Machine.{Waits, over, turns_of, turns, doing, behind, goes_on, past, onward, returned, state, ends_as, remains}
+use Rattle.c_run.specs.Machine.{Waits, turns_of, turns, doing, behind, goes_on, past, onward, returned, state, ends_as, remains}
 use Rattle.c_run.specs.Work.{list_work, while_work, do_work, turn_work, task_work, pending_work, waiting_work, waiting, left}
 use Rattle.c_run.proofs.Remains.{state_entered, state_pushed}
 

@@ -1,5 +1,4 @@
 -- How a run ends, as `run` answers it.
-use Rattle.std.specs.Prelude.{List}
 use Rattle.c_tree.specs.declared.program.Costs.{Costs}
 use Rattle.c_tree.specs.Runs.{Run, Ended, IsUndefined, IsOverBound}
 use Rattle.c_tree.specs.Claims.{cost}

@@ -14,7 +14,6 @@ use Rattle.c_tree.specs.declared.tree.Ty.{Ty}
 use Rattle.c_tree.specs.declared.program.Local.{Local}
 use Rattle.c_tree.specs.Values.{convert, is_true}
 use Rattle.c_tree.specs.Expressions.{val}
-use Rattle.c_tree.specs.Blocks.{list_blocks}
 use Rattle.c_tree.specs.Statements.{Callee, Outcome, Ends, Undefined, OverBound, with_value, after, then_do, turn_do, block, while_turns, do_turns, come_back, exec, list_exec, held}
 use Rattle.c_tree.specs.Runs.{param_types, arguments, entry_slots, global_slots, fresh, result_of, back, callees}
 use Rattle.c_tree.specs.Claims.{cost}

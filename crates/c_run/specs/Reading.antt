@@ -1,6 +1,5 @@
 -- Words of the reader and the writer of inputs' texts.
 use Rattle.std.specs.Prelude.{◌≡◌, ◌≤◌, ◌^◌, ◌⊎◌, ℕ, Bool, not, ◌==◌, ◌||◌, if◌then◌else◌, unwrap_or, List, [], ◌∷◌, ◌++◌, drop, ℤ, unsigned_abs}
-use Rattle.std.specs.Fmt.{signed_decimal}
 use Rattle.c_tree.specs.declared.program.Global.{Global}
 use Rattle.c_run.specs.InputTexts.{own_leads, led}
 

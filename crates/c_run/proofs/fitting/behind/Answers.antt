@@ -1,10 +1,6 @@
-use Rattle.std.proofs.Common.{◌≡◌, ◌<◌, ◌≤◌, ℕ, suc, ◌+◌, ◌-◌, List, [], ◌∷◌, ◌++◌, drop, length, replicate, Option, Some, None, refl, sym, ap, ◌∙◌, arith, false}
-use Rattle.std.specs.Prelude.{slice_get, option_copied}
-use Rattle.std.proofs.Math.ListN.{drop_of_length-le}
-use Rattle.std.proofs.lemmas.Option.{slice_get_read}
-use Rattle.c_tree.specs.Runs.{are_of, outer_types, entry_types, param_types}
-use Rattle.c_run.specs.Starts.{rest_of, own_types}
-use Rattle.c_run.proofs.InputParts.{drop_is, params_none, next_some, next_none, global_some, global_none, entry_some, entry_none}
+use Rattle.std.proofs.Common.{◌≡◌, suc, ◌+◌, ◌-◌, replicate, sym, ap, ◌∙◌, arith}
+use Rattle.c_run.specs.Starts.{rest_of}
+use Rattle.c_run.proofs.InputParts.{next_some, next_none}
 use Rattle.c_run.proofs.fitting.behind.Goals as goal
 
 pub returns-in-None : goal.returns-in-None

@@ -1,4 +1,4 @@
-use Rattle.std.proofs.Common.{◌≡◌, ◌++◌, ◌+◌, Some, None, Option, MatchOption, subst, take, drop, sym, ap, ◌∙◌, rules}
+use Rattle.std.proofs.Common.{◌∙◌}
 use Rattle.std.specs.Fmt.{signed_decimal}
 use Rattle.c_run.proofs.InputSteps.{behind_label, number_found, kept, none_some, some_same}
 use Rattle.c_run.proofs.reading.number_behind.Goals as goal

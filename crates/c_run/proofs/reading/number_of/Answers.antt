@@ -1,4 +1,4 @@
-use Rattle.std.proofs.Common.{◌≡◌, ◌++◌, Option, Some, None, MatchResult, sym, ap, ◌∙◌}
+use Rattle.std.proofs.Common.{sym, ap, ◌∙◌}
 use Rattle.std.specs.Result.{result_ok}
 use Rattle.c_run.proofs.InputSteps.{number_is_text, number_is_read, text_is_read, text_is}
 use Rattle.c_run.proofs.reading.number_of.Goals as goal

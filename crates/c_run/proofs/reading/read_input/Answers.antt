@@ -1,4 +1,4 @@
-use Rattle.std.proofs.Common.{◌≡◌, Some, None, sym, ap, ◌∙◌}
+use Rattle.std.proofs.Common.{◌∙◌}
 use Rattle.c_run.proofs.InputRead.{finds, nothing_read, checked_read}
 use Rattle.c_run.proofs.reading.read_input.Goals as goal
 

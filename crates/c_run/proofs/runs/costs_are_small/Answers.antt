@@ -1,4 +1,4 @@
-use Rattle.std.proofs.Common.{ℕ, ◌<◌, arith, below_more, subst}
+use Rattle.std.proofs.Common.{arith, below_more, subst}
 use Rattle.c_run.proofs.CostRows.{SmallAt, all_small, small_row}
 use Rattle.c_run.proofs.runs.costs_are_small.Goals as goal
 

@@ -1,4 +1,4 @@
-use Rattle.std.proofs.Common.{◌≡◌, Some, sym, ap, ◌∙◌}
+use Rattle.std.proofs.Common.{Some, sym, ap, ◌∙◌}
 use Rattle.c_tree.specs.Stores.{slot_ty, array_length}
 use Rattle.c_run.proofs.Declared.{array_declared}
 use Rattle.c_run.proofs.simple.declare_array.Goals as goal

@@ -1,4 +1,4 @@
-use Rattle.std.proofs.Common.{◌≡◌, ◌<◌, ◌++◌, [], Some, length, refl, drop, sym, ap, ◌∙◌, arith, rules, append-nil, append_assoc}
+use Rattle.std.proofs.Common.{◌++◌, length, refl, drop, sym, ap, ◌∙◌, append-nil, append_assoc}
 use Rattle.std.proofs.lemmas.Option.{slice_get_read}
 use Rattle.std.specs.Fmt.{signed_decimal}
 use Rattle.c_run.specs.InputTexts.{led}
