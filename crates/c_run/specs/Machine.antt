@@ -1,0 +1,181 @@
+-- What is left of a run: what the task at work and the statements that wait for it come to.
+use Rattle.std.specs.Prelude.{◌≡◌, ℕ, zero, suc, ◌+◌, ◌%◌, ◌^◌, Bool, true, false, if◌then◌else◌, List, [], ◌∷◌, ◌++◌, take, drop, length, Option, Some, None, ℤ}
+use Rattle.std.specs.Option.{option_copied}
+use Rattle.c_tree.specs.declared.tree.Stmt.{Stmt}
+use Rattle.c_tree.specs.declared.program.Func.{Func}
+use Rattle.c_tree.specs.declared.program.Costs.{Costs}
+use Rattle.c_tree.specs.declared.value.Store.{Store}
+use Rattle.c_tree.specs.declared.value.Way.{Way}
+use Rattle.c_tree.specs.declared.value.Way.TheVariants as way
+use Rattle.c_tree.specs.declared.value.Value.{Value}
+use Rattle.c_tree.specs.declared.value.Slot.{Slot}
+use Rattle.c_tree.specs.declared.value.Slot.TheVariants.{Number}
+use Rattle.c_tree.specs.declared.tree.Ty.{Ty}
+use Rattle.c_tree.specs.declared.program.Local.{Local}
+use Rattle.c_tree.specs.Values.{convert, is_true}
+use Rattle.c_tree.specs.Expressions.{val}
+use Rattle.c_tree.specs.Statements.{Callee, Outcome, Ends, Undefined, OverBound, with_value, after, then_do, turn_do, block, while_turns, do_turns, come_back, exec, list_exec, held}
+use Rattle.c_tree.specs.Runs.{param_types, arguments, entry_slots, global_slots, fresh, result_of, back, callees}
+use Rattle.c_tree.specs.Claims.{cost}
+use Rattle.c_run.specs.declared.run_end.RunEnd.{RunEnd}
+use Rattle.c_run.specs.declared.run_end.RunEnd.TheVariants as end
+use Rattle.c_run.specs.declared.machine.Loop.{Loop}
+use Rattle.c_run.specs.declared.machine.DoLoop.{DoLoop}
+use Rattle.c_run.specs.declared.machine.Task.{Task}
+use Rattle.c_run.specs.declared.machine.Task.TheVariants as task
+use Rattle.c_run.specs.declared.machine.Pending.{Pending}
+use Rattle.c_run.specs.declared.machine.Pending.TheVariants as pending
+use Rattle.c_run.specs.declared.machine.Machine.{Machine}
+use Rattle.c_run.specs.declared.machine.Given.{Given}
+
+-- ---- ends, with the cost modulo 2^128
+
+unfoldable pub costed : Costs → Outcome → RunEnd
+costed t (Ends u s w) = end.Ends (cost t u % 2 ^ 128)
+costed t Undefined = end.Undefined
+costed t OverBound = end.OverBound
+
+unfoldable pub dearer : ℕ → RunEnd → RunEnd
+dearer c (end.Ends d) = end.Ends ((c + d) % 2 ^ 128)
+dearer c end.Undefined = end.Undefined
+dearer c end.OverBound = end.OverBound
+
+-- ---- tasks
+
+-- the functions above the function f
+abbrev pub over : List Func → ℕ → List Callee
+over fs f = callees [] (take f fs)
+
+-- the initialiser or step of a loop, as the list of it
+abbrev pub step_of : Loop → List Stmt
+step_of l = held (option_copied l.step)
+
+-- from the condition on, where the body may be entered n more times
+unfoldable pub turns_of : List Callee → ℕ → Loop → ℕ → Store → Outcome
+turns_of cs f l n = while_turns n (block f l.at) l.condition.now (list_exec cs f l.body.now l.body_at false) (list_exec cs f (step_of l) (l.at + 1) false)
+
+abbrev pub turns : List Callee → ℕ → Loop → Store → Outcome
+turns cs f l = turns_of cs f l l.left
+
+-- from the body on
+unfoldable pub entering : List Callee → ℕ → Loop → ℕ → Store → Outcome
+entering cs f l zero s = OverBound
+entering cs f l (suc n) s =
+    turn_do (list_exec cs f l.body.now l.body_at false s) (λ s'. then_do (list_exec cs f (step_of l) (l.at + 1) false s') (turns_of cs f l n))
+
+unfoldable pub again_of : List Callee → ℕ → DoLoop → ℕ → Store → Outcome
+again_of cs f l n = do_turns n (block f l.at) l.condition.now (list_exec cs f l.body.now l.body_at false)
+
+abbrev pub again : List Callee → ℕ → DoLoop → Store → Outcome
+again cs f l = again_of cs f l l.left
+
+-- what a task comes to in the function f
+unfoldable pub doing : List Func → ℕ → Task → Store → Outcome
+doing fs f (task.List xs n run) s = list_exec (over fs f) f xs.now n run s
+doing fs f (task.One st n run) s = exec (over fs f) f st.now n run s
+doing fs f (task.Turn l) s = turns (over fs f) f l s
+doing fs f (task.Again l) s = again (over fs f) f l s
+doing fs f (task.Ended w) s = Ends [] s w
+doing fs f task.Undefined s = Undefined
+doing fs f task.OverBound s = OverBound
+
+-- ---- what waits
+
+-- behind the body of a `do`, its condition
+abbrev pub do_test : List Callee → ℕ → DoLoop → Store → Outcome
+do_test cs f l s =
+    after (block f l.at ∷ []) (with_value (val l.condition.now s) (λ v. if is_true v then again cs f l s else Ends [] s way.Next))
+
+-- what one that waits makes of what it waited for
+unfoldable pub behind : List Func → Pending → Outcome → Outcome
+behind fs (pending.Rest f xs n run) o = then_do o (list_exec (over fs f) f xs.now n run)
+behind fs (pending.Turn f l) o = then_do o (turns (over fs f) f l)
+behind fs (pending.Step f l) o =
+    turn_do o (λ s. then_do (list_exec (over fs f) f (step_of l) (l.at + 1) false s) (turns (over fs f) f l))
+behind fs (pending.DoTest f l) o = turn_do o (do_test (over fs f) f l)
+behind fs (pending.Caller f target locals result) o =
+    come_back target (record { locals = locals.items; globals = [] }) (back result o)
+
+-- whether the body of a loop that ended so is followed by another turn, and how the loop ends where it is not
+abbrev pub goes_on : Way → Bool
+goes_on way.Next = true
+goes_on way.Continue = true
+goes_on way.Break = false
+goes_on (way.Return v) = false
+
+abbrev pub past : Way → Way
+past way.Break = way.Next
+past way.Next = way.Next
+past way.Continue = way.Continue
+past (way.Return v) = way.Return v
+
+-- a task that waits for what ended so
+abbrev pub onward : Way → Task → Task
+onward way.Next t = t
+onward way.Break t = task.Ended way.Break
+onward way.Continue t = task.Ended way.Continue
+onward (way.Return v) t = task.Ended (way.Return v)
+
+-- what a function of this result comes back with
+abbrev pub returned : Option Ty → Way → Option Value
+returned r (way.Return v) = result_of r v
+returned r way.Next = None
+returned r way.Break = None
+returned r way.Continue = None
+
+-- the slot of a local as a call begins
+abbrev pub entry_slot : Local → Option Value → Slot
+entry_slot l None = fresh l.ty l.length
+entry_slot l (Some v) = Number (convert l.ty v)
+
+-- the last waits for what is done, and each other for the one behind it
+unfoldable pub finished : List Func → List Pending → Outcome → Outcome
+finished fs [] o = o
+finished fs (p ∷ ps) o = behind fs p (finished fs ps o)
+
+-- ---- the machine
+
+-- the end of a run that has this cost so far
+abbrev pub state : Costs → List Func → ℕ → List Pending → Outcome → RunEnd
+state t fs c ps o = dearer c (costed t (finished fs ps o))
+
+abbrev pub ends_as : Given → Machine → Outcome → RunEnd
+ends_as g m o = state g.costs.now g.program.now.funcs m.cost m.pending.items o
+
+-- the functions above the one at work
+abbrev pub functions : Given → Machine → List Callee
+functions g m = over g.program.now.funcs m.func
+
+-- one more waits, and all else is the same
+pub record Waits (before after : Machine) (p : Pending) : Type 0 where
+  pub func : after.func ≡ before.func
+  pub memory : after.memory ≡ before.memory
+  pub cost : after.cost ≡ before.cost
+  pub pending : after.pending.items ≡ before.pending.items ++ p ∷ []
+
+-- no end
+abbrev pub is_work : Task → Bool
+is_work (task.List xs n run) = true
+is_work (task.One st n run) = true
+is_work (task.Turn l) = true
+is_work (task.Again l) = true
+is_work (task.Ended w) = false
+is_work task.Undefined = false
+is_work task.OverBound = false
+
+-- with a task at work
+abbrev pub remains : Given → Machine → Task → RunEnd
+remains g m t = ends_as g m (doing g.program.now.funcs m.func t m.memory)
+
+-- the run of the entry function on these arguments and globals, with the cost modulo 2^128
+abbrev pub entered : Given → Func → List Value → List Slot → RunEnd
+entered g h vs gs =
+    let p = g.program.now in
+    let s : Store = record { locals = entry_slots h.locals vs; globals = gs } in
+    costed g.costs.now (list_exec (over p.funcs p.entry) p.entry h.body 0 false s)
+
+-- and on these input numbers
+abbrev pub begun : Given → Func → List ℤ → RunEnd
+begun g h zs =
+    let ts = param_types h.params h.locals in
+    entered g h (arguments ts zs) (global_slots g.program.now.globals (drop (length ts) zs))

@@ -1,0 +1,223 @@
+//! Calls (C11 6.5.2.2, 6.9.1), and what goes on behind the end of what was waited for.
+
+ghost use Rattle.std.specs.Prelude.{◌≡◌, ◌<◌, ◌+◌, ◌%◌, ◌^◌, false, if◌then◌else◌, None, [], ◌∷◌, ◌++◌, option_map, option_copied, slice_get, take, IfOk, OnOk};
+ghost use Rattle.c_tree.specs.Values.{is_true};
+ghost use Rattle.c_tree.specs.Expressions.{val, all_values};
+ghost use Rattle.c_tree.specs.Blocks.{list_blocks};
+ghost use Rattle.c_tree.specs.Statements.{Back, Callee, Ends, unset_target, give, come_back, call, with_value, after, then_do, entered, stored, simple, return_value, block, list_exec, held};
+ghost use Rattle.c_tree.specs.Runs as runs;
+ghost use Rattle.c_run.specs.Machine as machine;
+ghost use Rattle.c_run.specs.declared.machine.Given.{Given};
+ghost use Rattle.c_run.specs.Machine.{behind, over, functions, remains, ends_as};
+ghost use Rattle.c_run.specs.Work.{list_work, works_over, work_at, pending_work, efforts, waiting, left};
+
+use crate::machine::{Given, Machine, Pending, Task, with_block};
+use crate::memory::Memory;
+use crate::simple::{all_values, padded};
+use crate::values::convert;
+use c_tree::{Expr, Func, Local, NoMemory, Program, Slot, Target, Ty, Value, Var, Way};
+use std::alloc::Global;
+
+impl<'a> Machine<'a> {
+    /// A call.
+    pub(crate) fn call(
+        &mut self,
+        given: Given<'a>,
+        target: Target,
+        func: u32,
+        arguments: &[Expr],
+        at: usize,
+    ) -> Result<Task<'a>, NoMemory>
+        ensures same { IfOk result (λ t. remains given.entry self.new t ≡ ends_as given.entry self.old (after (block self.old.func at ∷ []) (call (slice_get (functions given.entry self.old) func) target (all_values arguments.now (unset_target target self.old.memory)) (unset_target target self.old.memory)))) }
+        ensures less { IfOk result (λ t. left given.entry self.new t < 2 + work_at (efforts given.entry self.old) func + waiting given.entry self.old) }
+    {
+        self.cost = with_block(self.cost, given.costs, self.func, at);
+        unset(target, &mut self.memory);
+        let Some(callee) = function_above(given.program, func, self.func) else {
+            return Ok(Task::Undefined);
+        };
+        let Some(values) = all_values(given.alloc, arguments, &self.memory)? else {
+            return Ok(Task::Undefined);
+        };
+        self.enter(given, callee, func, target, values.as_slice())
+    }
+
+    /// Enters a function.
+    fn enter(
+        &mut self,
+        given: Given<'a>,
+        callee: &'a Func,
+        func: u32,
+        target: Target,
+        values: &[Value],
+    ) -> Result<Task<'a>, NoMemory>
+        ensures same { IfOk result (λ t. remains given.entry self.new t ≡ ends_as given.entry self.old (come_back target self.old.memory (runs.callee func callee.now (over given.entry.program.now.funcs func) values.now self.old.memory.globals))) }
+        ensures less { IfOk result (λ t. left given.entry self.new t < 2 + list_work (works_over given.entry.program.now.funcs func) callee.now.body + waiting given.entry self.old) }
+    {
+        let locals = entry_slots(given.alloc, callee.locals.as_slice(), values)?;
+        let locals = self.memory.replace_locals(locals);
+        self.wait(Pending::Caller {
+            func: self.func,
+            target,
+            locals,
+            result: callee.result,
+        })?;
+        self.func = func;
+        Ok(Task::List {
+            stmts: callee.body.as_slice(),
+            at: 0,
+            run: false,
+        })
+    }
+
+    /// Goes on behind what ended in this way.
+    pub(crate) fn resume(
+        &mut self,
+        given: Given<'a>,
+        pending: Pending<'a>,
+        way: Way,
+    ) -> Result<Task<'a>, NoMemory>
+        ensures same { IfOk result (λ t. remains given.entry self.new t ≡ ends_as given.entry self.old (behind given.entry.program.now.funcs pending.entry (Ends [] self.old.memory way))) }
+        ensures less { IfOk result (λ t. left given.entry self.new t < pending_work given.entry.program.now.funcs pending.entry + waiting given.entry self.old) }
+    {
+        match pending {
+            Pending::Rest {
+                func,
+                stmts,
+                at,
+                run,
+            } => {
+                self.func = func;
+                Ok(onward(way, Task::List { stmts, at, run }))
+            }
+            Pending::Turn { func, turns } => {
+                self.func = func;
+                Ok(onward(way, Task::Turn(turns)))
+            }
+            Pending::Step { func, turns } => {
+                self.func = func;
+                self.step(turns, way)
+            }
+            Pending::DoTest { func, turns } => {
+                self.func = func;
+                Ok(self.do_test(given, turns, way))
+            }
+            Pending::Caller {
+                func,
+                target,
+                locals,
+                result,
+            } => {
+                self.func = func;
+                self.memory.replace_locals(locals);
+                Ok(self.take_result(target, returned(result, way)))
+            }
+        }
+    }
+
+    /// Puts a call's result where it goes.
+    fn take_result(&mut self, target: Target, value: Option<Value>) -> Task<'a>
+        ensures same { (g : Given) → remains g self.new result ≡ ends_as g self.old (give target value self.old.memory) }
+        ensures less { (g : Given) → left g self.new result < 1 + waiting g self.old }
+    {
+        match target {
+            Target::Nothing => Task::Ended(Way::Next),
+            Target::Assign(var) => self.assign(var, value),
+            Target::Declare(local) => self.assign(Var::Local(local), value),
+        }
+    }
+
+    /// Assigns a call's result, which is undefined where there is none.
+    fn assign(&mut self, var: Var, value: Option<Value>) -> Task<'a>
+        ensures same { (g : Given) → remains g self.new result ≡ ends_as g self.old (give (Target.Assign var) value self.old.memory) }
+        ensures less { (g : Given) → left g self.new result < 1 + waiting g self.old }
+    {
+        match value {
+            None => Task::Undefined,
+            Some(v) => {
+                self.memory.put_number(var, v);
+                Task::Ended(Way::Next)
+            }
+        }
+    }
+}
+
+/// A call that initialises a local makes it unset before its arguments are evaluated.
+fn unset(target: Target, memory: &mut Memory)
+    ensures { memory.new ≡ unset_target target memory.old }
+{
+    match target {
+        Target::Nothing => (),
+        Target::Assign(_) => (),
+        Target::Declare(local) => memory.unset(local),
+    }
+}
+
+/// A function that stands above the function `below`.
+fn function_above(program: &Program, func: u32, below: u32) -> Option<&Func>
+    ensures { option_copied result ≡ slice_get (take below program.now.funcs) func }
+{
+    if func < below {
+        program.funcs.get(func as usize)
+    } else {
+        None
+    }
+}
+
+/// The task, or the end itself where a statement did not end with what comes next.
+fn onward<'a>(way: Way, task: Task<'a>) -> Task<'a>
+    ensures { result ≡ machine.onward way task.entry }
+{
+    match way {
+        Way::Next => task,
+        _ => Task::Ended(way),
+    }
+}
+
+/// What a function of this result comes back with whose list ended in this way.
+fn returned(ty: Option<Ty>, way: Way) -> Option<Value>
+    ensures { result ≡ machine.returned ty way }
+{
+    let Way::Return(value) = way else {
+        return None;
+    };
+    Some(convert(ty?, value?))
+}
+
+/// A local that is no parameter, as a call begins.
+fn fresh(alloc: Global, ty: Ty, length: Option<u32>) -> Result<Slot, NoMemory>
+    ensures { IfOk result (λ x. x ≡ runs.fresh ty length) }
+{
+    match length {
+        None => Ok(Slot::Unset(ty)),
+        Some(n) => Ok(Slot::Numbers(ty, padded(alloc, ty, n as usize, &[])?)),
+    }
+}
+
+/// The slot of a local as a call begins, of a parameter with its argument.
+fn entry_slot(alloc: Global, local: &Local, value: Option<&Value>) -> Result<Slot, NoMemory>
+    ensures { IfOk result (λ x. x ≡ machine.entry_slot local.now (option_copied value.entry)) }
+{
+    match value {
+        None => fresh(alloc, local.ty, local.length),
+        Some(v) => Ok(Slot::Number(convert(local.ty, *v))),
+    }
+}
+
+/// The slots of a function's locals as a call begins.
+pub(crate) fn entry_slots(
+    alloc: Global,
+    locals: &[Local],
+    values: &[Value],
+) -> Result<Vec<Slot>, NoMemory>
+    ensures { IfOk result (λ v. v.items ≡ runs.entry_slots locals.now values.now) }
+{
+    let mut slots = Vec::new(alloc);
+    for (i, local) in locals.iter().enumerate() {
+        let slot = entry_slot(alloc, local, values.get(i))?;
+        if slots.push(slot).is_err() {
+            return Err(NoMemory);
+        }
+    }
+    Ok(slots)
+}

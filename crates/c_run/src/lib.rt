@@ -1,0 +1,30 @@
+//! Runs of a program, and the texts of its inputs.
+#![tactic(auto)]
+
+mod blocks;
+mod calls;
+mod expressions;
+mod fitting;
+mod inputs;
+mod law;
+mod leads;
+mod loops;
+mod machine;
+mod memory;
+mod operators;
+mod reading;
+mod run_end;
+mod runs;
+mod simple;
+mod statements;
+#[cfg(test)]
+mod tests;
+mod values;
+mod writing;
+
+pub use fitting::fits;
+pub use law::one_input;
+pub use reading::read_input;
+pub use run_end::RunEnd;
+pub use runs::run;
+pub use writing::input_text;

@@ -1,0 +1,231 @@
+//! Loops (C11 6.8.5).
+
+ghost use Rattle.std.specs.Prelude.{◌≡◌, ◌<◌, ◌+◌, ◌%◌, ◌^◌, false, if◌then◌else◌, None, [], ◌∷◌, ◌++◌, option_map, option_copied, slice_get, take, IfOk, OnOk};
+ghost use Rattle.c_tree.specs.Values.{is_true};
+ghost use Rattle.c_tree.specs.Expressions.{val, all_values};
+ghost use Rattle.c_tree.specs.Blocks.{list_blocks};
+ghost use Rattle.c_tree.specs.Statements.{Ends, with_value, after, then_do, entered, stored, simple, return_value, block, list_exec, held};
+ghost use Rattle.c_run.specs.declared.machine.Given.{Given};
+ghost use Rattle.c_run.specs.Machine as loops;
+ghost use Rattle.c_run.specs.Machine.{behind, functions, entering, turns, remains, ends_as};
+ghost use Rattle.c_run.specs.Work.{list_work, pending_work, turn_work, efforts, waiting, left};
+
+use crate::blocks::{self, held_blocks, plus};
+use crate::machine::{DoLoop, Given, Loop, Machine, Pending, Task, condition, with_block};
+use c_tree::{Expr, NoMemory, Stmt, Way};
+use sqlite_items::Boxed;
+
+impl<'a> Machine<'a> {
+    /// A `while` or a `for` from its condition on.
+    pub(crate) fn turn(&mut self, given: Given<'a>, turns: Loop<'a>) -> Result<Task<'a>, NoMemory>
+        ensures same { IfOk result (λ t. remains given.entry self.new t ≡ remains given.entry self.old (Task.Turn turns.entry)) }
+        ensures less { IfOk result (λ t. left given.entry self.new t < left given.entry self.old (Task.Turn turns.entry)) }
+    {
+        self.cost = with_block(self.cost, given.costs, self.func, turns.at);
+        match condition(turns.condition, &self.memory) {
+            None => Ok(Task::Undefined),
+            Some(false) => Ok(Task::Ended(Way::Next)),
+            Some(true) => self.enter_body(turns),
+        }
+    }
+
+    /// Enters the body of a loop once more, if its bound allows it.
+    fn enter_body(&mut self, turns: Loop<'a>) -> Result<Task<'a>, NoMemory>
+        ensures same { (g : Given) → IfOk result (λ t. remains g self.new t ≡ ends_as g self.old (entering (functions g self.old) self.old.func turns.entry turns.entry.left self.old.memory)) }
+        ensures less { (g : Given) → IfOk result (λ t. left g self.new t < left g self.old (Task.Turn turns.entry)) }
+    {
+        if turns.left == 0 {
+            return Ok(Task::OverBound);
+        }
+        let left = turns.left - 1;
+        self.wait(Pending::Step {
+            func: self.func,
+            turns: Loop { left, ..turns },
+        })?;
+        Ok(Task::List {
+            stmts: turns.body,
+            at: turns.body_at,
+            run: false,
+        })
+    }
+
+    /// A `do` from its body on.
+    pub(crate) fn again(&mut self, turns: DoLoop<'a>) -> Result<Task<'a>, NoMemory>
+        ensures same { (g : Given) → IfOk result (λ t. remains g self.new t ≡ remains g self.old (Task.Again turns.entry)) }
+        ensures less { (g : Given) → IfOk result (λ t. left g self.new t < left g self.old (Task.Again turns.entry)) }
+    {
+        if turns.left == 0 {
+            return Ok(Task::OverBound);
+        }
+        let left = turns.left - 1;
+        self.wait(Pending::DoTest {
+            func: self.func,
+            turns: DoLoop { left, ..turns },
+        })?;
+        Ok(Task::List {
+            stmts: turns.body,
+            at: turns.body_at,
+            run: false,
+        })
+    }
+
+    /// A `for`: its initialiser, if it has one, and then its condition.
+    pub(crate) fn begin(
+        &mut self,
+        initial: &'a Option<Boxed<Stmt>>,
+        ahead: Loop<'a>,
+        at: usize,
+    ) -> Result<Task<'a>, NoMemory>
+        ensures same { (g : Given) → IfOk result (λ t. remains g self.new t ≡ ends_as g self.old (then_do (list_exec (functions g self.old) self.old.func (held initial.now) at false self.old.memory) (turns (functions g self.old) self.old.func ahead.entry))) }
+        ensures less { (g : Given) → IfOk result (λ t. left g self.new t < 2 + list_work (efforts g self.old) (held initial.now) + turn_work (efforts g self.old) ahead.entry ahead.entry.left + waiting g self.old) }
+    {
+        match initial {
+            None => Ok(Task::Turn(ahead)),
+            Some(stmt) => {
+                self.wait(Pending::Turn {
+                    func: self.func,
+                    turns: ahead,
+                })?;
+                Ok(Task::One {
+                    stmt: stmt.get(),
+                    at,
+                    run: false,
+                })
+            }
+        }
+    }
+
+    /// What follows the body of a `while` or a `for` that ended in this way.
+    pub(crate) fn step(&mut self, turns: Loop<'a>, way: Way) -> Result<Task<'a>, NoMemory>
+        ensures same { (g : Given) → IfOk result (λ t. remains g self.new t ≡ ends_as g self.old (behind g.program.now.funcs (Pending.Step self.old.func turns.entry) (Ends [] self.old.memory way))) }
+        ensures less { (g : Given) → IfOk result (λ t. left g self.new t < pending_work g.program.now.funcs (Pending.Step self.old.func turns.entry) + waiting g self.old) }
+    {
+        if !goes_on(way) {
+            return Ok(Task::Ended(past(way)));
+        }
+        match turns.step {
+            None => Ok(Task::Turn(turns)),
+            Some(stmt) => {
+                self.wait(Pending::Turn {
+                    func: self.func,
+                    turns,
+                })?;
+                Ok(Task::One {
+                    stmt,
+                    at: plus(turns.at, 1)?,
+                    run: false,
+                })
+            }
+        }
+    }
+
+    /// What follows the body of a `do` that ended in this way.
+    pub(crate) fn do_test(&mut self, given: Given<'a>, turns: DoLoop<'a>, way: Way) -> Task<'a>
+        ensures same { remains given.entry self.new result ≡ ends_as given.entry self.old (behind given.entry.program.now.funcs (Pending.DoTest self.old.func turns.entry) (Ends [] self.old.memory way)) }
+        ensures less { left given.entry self.new result < pending_work given.entry.program.now.funcs (Pending.DoTest self.old.func turns.entry) + waiting given.entry self.old }
+    {
+        if !goes_on(way) {
+            return Task::Ended(past(way));
+        }
+        self.cost = with_block(self.cost, given.costs, self.func, turns.at);
+        match condition(turns.condition, &self.memory) {
+            None => Task::Undefined,
+            Some(false) => Task::Ended(Way::Next),
+            Some(true) => Task::Again(turns),
+        }
+    }
+}
+
+/// Whether a body that ended in this way is followed by another turn.
+fn goes_on(way: Way) -> bool
+    ensures { result ≡ loops.goes_on way }
+{
+    match way {
+        Way::Next => true,
+        Way::Continue => true,
+        Way::Break => false,
+        Way::Return(_) => false,
+    }
+}
+
+/// The way in which a loop ends whose body ended in this way.
+fn past(way: Way) -> Way
+    ensures { result ≡ loops.past way }
+{
+    match way {
+        Way::Break => Way::Next,
+        _ => way,
+    }
+}
+
+/// A `while` whose condition is the block `at`.
+pub(crate) fn while_loop<'a>(
+    bound: u32,
+    condition: &'a Expr,
+    body: &'a [Stmt],
+    at: usize,
+) -> Result<Loop<'a>, NoMemory>
+    ensures { IfOk result (λ l. l ≡ record { condition = condition.entry; step = None; body = body.entry; at = at; body_at = at + 1; left = bound }) }
+{
+    Ok(Loop {
+        condition,
+        step: None,
+        body,
+        at,
+        body_at: plus(at, 1)?,
+        left: bound,
+    })
+}
+
+/// A `do` whose body begins at the block `at`.
+pub(crate) fn do_loop<'a>(
+    bound: u32,
+    body: &'a [Stmt],
+    condition: &'a Expr,
+    at: usize,
+) -> Result<DoLoop<'a>, NoMemory>
+    ensures { IfOk result (λ l. l ≡ record { condition = condition.entry; body = body.entry; at = at + list_blocks body.now false; body_at = at; left = bound }) }
+{
+    Ok(DoLoop {
+        condition,
+        body,
+        at: plus(at, blocks::list_blocks(body)?)?,
+        body_at: at,
+        left: bound,
+    })
+}
+
+/// A `for` whose condition is the block `at`.
+pub(crate) fn for_loop<'a>(
+    bound: u32,
+    condition: &'a Expr,
+    step: &'a Option<Boxed<Stmt>>,
+    body: &'a [Stmt],
+    at: usize,
+) -> Result<Loop<'a>, NoMemory>
+    ensures condition { IfOk result (λ l. l.condition ≡ condition.entry) }
+    ensures step { IfOk result (λ l. option_copied l.step ≡ step.now) }
+    ensures body { IfOk result (λ l. l.body ≡ body.entry) }
+    ensures at { IfOk result (λ l. l.at ≡ at) }
+    ensures body_at { IfOk result (λ l. l.body_at ≡ at + 1 + list_blocks (held step.now) false) }
+    ensures left { IfOk result (λ l. l.left ≡ bound) }
+{
+    let body_at = plus(plus(at, 1)?, held_blocks(step)?)?;
+    Ok(Loop {
+        condition,
+        step: inner(step),
+        body,
+        at,
+        body_at,
+        left: bound,
+    })
+}
+
+fn inner(stmt: &Option<Boxed<Stmt>>) -> Option<&Stmt>
+    ensures { option_copied result ≡ stmt.now }
+{
+    match stmt {
+        None => None,
+        Some(stmt) => Some(stmt.get()),
+    }
+}

@@ -1,0 +1,205 @@
+//! Runs of statements (C11 6.8). What is left to do of the statements around the one at work stands in a list on the
+//! heap, so a run needs no more stack where calls and statements lie deeper in one another.
+
+ghost use Rattle.std.specs.Prelude.{◌≡◌, ◌<◌, ◌+◌, ◌%◌, ◌^◌, true, [], option_map, IfOk, OnOk};
+ghost use Rattle.c_tree.specs.Values.{is_true};
+ghost use Rattle.c_tree.specs.Expressions.{val};
+ghost use Rattle.c_tree.specs.Statements.{block};
+ghost use Rattle.c_tree.specs.Claims.{block_cost};
+ghost use Rattle.c_run.specs.Machine.{Waits, is_work, remains};
+ghost use Rattle.c_run.specs.Work.{left};
+
+use crate::expressions::value;
+use crate::memory::Memory;
+use crate::run_end::RunEnd;
+use crate::values::is_true;
+use c_tree::{Costs, Expr, NoMemory, Program, Slot, Stmt, Target, Ty, Way};
+use std::alloc::Global;
+
+/// What a run is made of, and where it takes memory from.
+#[derive(Clone, Copy)]
+pub(crate) struct Given<'a> {
+    pub(crate) alloc: Global,
+    pub(crate) program: &'a Program,
+    pub(crate) costs: &'a Costs,
+}
+
+/// A `while` or a `for`, whose body may be entered `left` more times. `at` is the block of its condition, behind which
+/// comes that of its step; `body_at` is the first of its body.
+#[derive(Clone, Copy)]
+pub(crate) struct Loop<'a> {
+    pub(crate) condition: &'a Expr,
+    pub(crate) step: Option<&'a Stmt>,
+    pub(crate) body: &'a [Stmt],
+    pub(crate) at: usize,
+    pub(crate) body_at: usize,
+    pub(crate) left: u32,
+}
+
+/// A `do`, whose body may be entered `left` more times. `body_at` is the first block of its body, and `at` that of its
+/// condition.
+#[derive(Clone, Copy)]
+pub(crate) struct DoLoop<'a> {
+    pub(crate) condition: &'a Expr,
+    pub(crate) body: &'a [Stmt],
+    pub(crate) at: usize,
+    pub(crate) body_at: usize,
+    pub(crate) left: u32,
+}
+
+/// What is to be done next in the function at work.
+#[derive(Clone, Copy)]
+pub(crate) enum Task<'a> {
+    /// The statements of a list, of which the first block is `at`, unless `run` tells that a run of simple ones goes on.
+    List {
+        stmts: &'a [Stmt],
+        at: usize,
+        run: bool,
+    },
+    /// One statement.
+    One {
+        stmt: &'a Stmt,
+        at: usize,
+        run: bool,
+    },
+    /// A `while` or a `for` from its condition on.
+    Turn(Loop<'a>),
+    /// A `do` from its body on.
+    Again(DoLoop<'a>),
+    /// Nothing: what was done ended in this way.
+    Ended(Way),
+    /// Nothing: what was done is undefined.
+    Undefined,
+    /// Nothing: a loop's bound was passed.
+    OverBound,
+}
+
+/// What waits for the end of what is done, with the number of its function.
+#[derive(Drop)]
+pub(crate) enum Pending<'a> {
+    /// The rest of a list.
+    Rest {
+        func: u32,
+        stmts: &'a [Stmt],
+        at: usize,
+        run: bool,
+    },
+    /// The condition of a loop, behind its initialiser or its step.
+    Turn {
+        func: u32,
+        turns: Loop<'a>,
+    },
+    /// What follows the body of a `while` or a `for`.
+    Step {
+        func: u32,
+        turns: Loop<'a>,
+    },
+    /// The condition of a `do`.
+    DoTest {
+        func: u32,
+        turns: DoLoop<'a>,
+    },
+    /// The caller: where the result goes, the caller's locals, and the result's type.
+    Caller {
+        func: u32,
+        target: Target,
+        locals: Vec<Slot>,
+        result: Option<Ty>,
+    },
+}
+
+/// The function at work by its number, the store, what waits (the innermost last), and the cost so far, modulo 2^128.
+#[derive(Drop)]
+pub(crate) struct Machine<'a> {
+    pub(crate) func: u32,
+    pub(crate) memory: Memory,
+    pub(crate) pending: Vec<Pending<'a>>,
+    pub(crate) cost: u128,
+}
+
+/// The cost with that of a block added.
+pub(crate) fn with_block(cost: u128, costs: &Costs, func: u32, at: usize) -> u128
+    ensures { result ≡ (cost + block_cost costs.now (block func at)) % 2 ^ 128 }
+{
+    let more = match costs.by_func.get(func as usize) {
+        None => 0,
+        Some(row) => row.get(at).copied().unwrap_or(0),
+    };
+    cost.wrapping_add(u128::from(more))
+}
+
+/// Whether a condition holds, or None where it is undefined.
+pub(crate) fn condition(e: &Expr, memory: &Memory) -> Option<bool>
+    ensures { result ≡ option_map is_true (val e.now memory.now) }
+{
+    Some(is_true(value(e, memory)?))
+}
+
+impl<'a> Machine<'a> {
+    /// A machine at work in this function, for which nothing waits.
+    pub(crate) fn new(alloc: Global, func: u32, memory: Memory) -> Machine<'a>
+        ensures func { result.func ≡ func }
+        ensures memory { result.memory ≡ memory }
+        ensures pending { result.pending.items ≡ [] }
+        ensures cost { result.cost ≡ 0 }
+    {
+        Machine {
+            func,
+            memory,
+            pending: Vec::new(alloc),
+            cost: 0,
+        }
+    }
+
+    /// Has the statement at work wait.
+    pub(crate) fn wait(&mut self, pending: Pending<'a>) -> Result<(), NoMemory>
+        ensures { OnOk result (Waits self.old self.new pending.entry) }
+    {
+        match self.pending.push(pending) {
+            Ok(()) => Ok(()),
+            Err(_) => Err(NoMemory),
+        }
+    }
+
+    /// The cost so far.
+    fn total(&self) -> u128
+        ensures { result ≡ self.now.cost }
+    {
+        self.cost
+    }
+
+    /// The task that comes next where this one is no end.
+    fn work(&mut self, given: Given<'a>, task: Task<'a>) -> Result<Task<'a>, NoMemory>
+        requires { is_work task ≡ true }
+        ensures same { IfOk result (λ t. remains given.entry self.new t ≡ remains given.entry self.old task.entry) }
+        ensures less { IfOk result (λ t. left given.entry self.new t < left given.entry self.old task.entry) }
+    {
+        match task {
+            Task::List { stmts, at, run } => self.list(stmts, at, run),
+            Task::One { stmt, at, run } => self.one(given, stmt, at, run),
+            Task::Turn(turns) => self.turn(given, turns),
+            Task::Again(turns) => self.again(turns),
+            Task::Ended(_) => Err(NoMemory),
+            Task::Undefined => Err(NoMemory),
+            Task::OverBound => Err(NoMemory),
+        }
+    }
+
+    /// Does a task, and all that waits for it.
+    pub(crate) fn finish(&mut self, given: Given<'a>, first: Task<'a>) -> Result<RunEnd, NoMemory>
+        ensures { IfOk result (λ e. e ≡ remains given.entry self.old first.entry) }
+    {
+        let mut task = first;
+        loop {
+            match task {
+                Task::Undefined => return Ok(RunEnd::Undefined),
+                Task::OverBound => return Ok(RunEnd::OverBound),
+                Task::Ended(way) => match self.pending.pop() {
+                    None => return Ok(RunEnd::Ends { cost: self.total() }),
+                    Some(pending) => task = self.resume(given, pending, way)?,
+                },
+                _ => task = self.work(given, task)?,
+            }
+        }
+    }
+}

@@ -1,0 +1,169 @@
+//! Statements that are no loops and no calls (C11 6.8.2, 6.8.4, 6.8.6), and what a statement of each kind begins with.
+
+ghost use Rattle.std.specs.Prelude.{◌≡◌, ◌<◌, ◌+◌, ◌%◌, ◌^◌, true, false, if◌then◌else◌, None, [], ◌∷◌, ◌++◌, option_map, option_copied, slice_get, take, IfOk, OnOk};
+ghost use Rattle.c_tree.specs.Values.{is_true};
+ghost use Rattle.c_tree.specs.Expressions.{val, all_values};
+ghost use Rattle.c_tree.specs.Blocks.{list_blocks};
+ghost use Rattle.c_tree.specs.Statements.{Ends, with_value, after, then_do, entered, stored, simple, return_value, block, list_exec, held};
+ghost use Rattle.c_tree.specs.Claims.{block_cost};
+ghost use Rattle.c_run.specs.declared.machine.Given.{Given};
+ghost use Rattle.c_run.specs.Machine.{functions, remains, ends_as};
+ghost use Rattle.c_run.specs.Work.{list_work, efforts, waiting, left};
+
+use crate::blocks::{self, blocks, held_blocks, is_simple, plus};
+use crate::expressions::value;
+use crate::loops::{do_loop, for_loop, while_loop};
+use crate::machine::{Given, Machine, Pending, Task, condition, with_block};
+use crate::simple::simple;
+use c_tree::{Costs, Expr, NoMemory, Stmt, Way};
+
+impl<'a> Machine<'a> {
+    /// A list of statements.
+    pub(crate) fn list(
+        &mut self,
+        stmts: &'a [Stmt],
+        at: usize,
+        run: bool,
+    ) -> Result<Task<'a>, NoMemory>
+        ensures same { (g : Given) → IfOk result (λ t. remains g self.new t ≡ remains g self.old (Task.List stmts.entry at run)) }
+        ensures less { (g : Given) → IfOk result (λ t. left g self.new t < left g self.old (Task.List stmts.entry at run)) }
+    {
+        let Some((stmt, rest)) = stmts.split_first() else {
+            return Ok(Task::Ended(Way::Next));
+        };
+        self.wait(Pending::Rest {
+            func: self.func,
+            stmts: rest,
+            at: plus(at, blocks(stmt, run)?)?,
+            run: is_simple(stmt),
+        })?;
+        Ok(Task::One { stmt, at, run })
+    }
+
+    /// One statement.
+    pub(crate) fn one(
+        &mut self,
+        given: Given<'a>,
+        stmt: &'a Stmt,
+        at: usize,
+        run: bool,
+    ) -> Result<Task<'a>, NoMemory>
+        ensures same { IfOk result (λ t. remains given.entry self.new t ≡ remains given.entry self.old (Task.One stmt.entry at run)) }
+        ensures less { IfOk result (λ t. left given.entry self.new t < left given.entry self.old (Task.One stmt.entry at run)) }
+    {
+        match stmt {
+            Stmt::Empty => self.plain(given, stmt, at, run),
+            Stmt::Scalar(..) => self.plain(given, stmt, at, run),
+            Stmt::Array(..) => self.plain(given, stmt, at, run),
+            Stmt::Assign(..) => self.plain(given, stmt, at, run),
+            Stmt::Call(target, func, arguments) => {
+                self.call(given, *target, *func, arguments.as_slice(), at)
+            }
+            Stmt::Break => Ok(self.jump(given, at, Way::Break)),
+            Stmt::Continue => Ok(self.jump(given, at, Way::Continue)),
+            Stmt::Return(e) => Ok(self.leave(given, e, at)),
+            Stmt::If(e, xs, ys) => self.choose(given, e, xs.as_slice(), ys.as_slice(), at),
+            Stmt::While(bound, e, xs) => {
+                let turns = while_loop(*bound, e, xs.as_slice(), at)?;
+                Ok(Task::Turn(turns))
+            }
+            Stmt::Do(bound, xs, e) => {
+                let turns = do_loop(*bound, xs.as_slice(), e, at)?;
+                Ok(Task::Again(turns))
+            }
+            Stmt::For(bound, i, e, j, xs) => {
+                let condition = plus(at, held_blocks(i)?)?;
+                let turns = for_loop(*bound, e, j, xs.as_slice(), condition)?;
+                self.begin(i, turns, at)
+            }
+            Stmt::Group(xs) => Ok(Task::List {
+                stmts: xs.as_slice(),
+                at,
+                run: false,
+            }),
+        }
+    }
+
+    /// A simple statement.
+    fn plain(
+        &mut self,
+        given: Given<'a>,
+        stmt: &Stmt,
+        at: usize,
+        run: bool,
+    ) -> Result<Task<'a>, NoMemory>
+        ensures same { IfOk result (λ t. remains given.entry self.new t ≡ ends_as given.entry self.old (after (entered self.old.func at run) (stored (simple stmt.now self.old.memory)))) }
+        ensures less { IfOk result (λ t. left given.entry self.new t < 1 + waiting given.entry self.old) }
+    {
+        self.cost = with_run(self.cost, given.costs, self.func, at, run);
+        if simple(given.alloc, stmt, &mut self.memory)? {
+            Ok(Task::Ended(Way::Next))
+        } else {
+            Ok(Task::Undefined)
+        }
+    }
+
+    /// A `break` or a `continue`.
+    fn jump(&mut self, given: Given<'a>, at: usize, way: Way) -> Task<'a>
+        ensures same { remains given.entry self.new result ≡ ends_as given.entry self.old (Ends (block self.old.func at ∷ []) self.old.memory way) }
+        ensures less { left given.entry self.new result < 1 + waiting given.entry self.old }
+    {
+        self.cost = with_block(self.cost, given.costs, self.func, at);
+        Task::Ended(way)
+    }
+
+    /// A `return`.
+    fn leave(&mut self, given: Given<'a>, e: &Option<Expr>, at: usize) -> Task<'a>
+        ensures same { remains given.entry self.new result ≡ ends_as given.entry self.old (after (block self.old.func at ∷ []) (return_value e.now self.old.memory)) }
+        ensures less { left given.entry self.new result < 1 + waiting given.entry self.old }
+    {
+        self.cost = with_block(self.cost, given.costs, self.func, at);
+        match e {
+            None => Task::Ended(Way::Return(None)),
+            Some(e) => match value(e, &self.memory) {
+                None => Task::Undefined,
+                Some(v) => Task::Ended(Way::Return(Some(v))),
+            },
+        }
+    }
+
+    /// An `if`.
+    fn choose(
+        &mut self,
+        given: Given<'a>,
+        e: &Expr,
+        first: &'a [Stmt],
+        second: &'a [Stmt],
+        at: usize,
+    ) -> Result<Task<'a>, NoMemory>
+        ensures same { IfOk result (λ t. remains given.entry self.new t ≡ ends_as given.entry self.old (after (block self.old.func at ∷ []) (with_value (val e.now self.old.memory) (λ v. if is_true v then list_exec (functions given.entry self.old) self.old.func first.now (at + 1) false self.old.memory else list_exec (functions given.entry self.old) self.old.func second.now (at + 1 + list_blocks first.now false) false self.old.memory)))) }
+        ensures less { IfOk result (λ t. left given.entry self.new t < 1 + list_work (efforts given.entry self.old) first.now + list_work (efforts given.entry self.old) second.now + waiting given.entry self.old) }
+    {
+        self.cost = with_block(self.cost, given.costs, self.func, at);
+        match condition(e, &self.memory) {
+            None => Ok(Task::Undefined),
+            Some(true) => Ok(Task::List {
+                stmts: first,
+                at: plus(at, 1)?,
+                run: false,
+            }),
+            Some(false) => Ok(Task::List {
+                stmts: second,
+                at: plus(plus(at, 1)?, blocks::list_blocks(first)?)?,
+                run: false,
+            }),
+        }
+    }
+}
+
+/// The cost with that of the block that a simple statement begins, unless a run of them goes on.
+fn with_run(cost: u128, costs: &Costs, func: u32, at: usize, run: bool) -> u128
+    ensures on { run ≡ true → result ≡ cost }
+    ensures begun { run ≡ false → result ≡ (cost + block_cost costs.now (block func at)) % 2 ^ 128 }
+{
+    if run {
+        cost
+    } else {
+        with_block(cost, costs, func, at)
+    }
+}
