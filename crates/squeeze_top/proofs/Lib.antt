@@ -1,5 +1,6 @@
-mod DearLayers
-mod DearBounds
-mod Within
-mod Told
 pub mod Refusing
+pub mod Agreeing
+mod Growing
+mod BlockLines
+mod Telling
+mod Halting

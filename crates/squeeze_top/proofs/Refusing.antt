@@ -1,18 +1,15 @@
 -- What the readers' answers say of a text.
-use Rattle.std.proofs.Common.{◌≡◌, ℕ, zero, suc, ◌+◌, ◌<◌, ◌≤◌, ◌↔◌, List, [], ◌∷◌, length, get_or, Result, Ok, Err, refl, sym, subst, arith}
-use Rattle.std.specs.Prelude.{◌≢◌, All, IsOkAnd}
+use Rattle.std.proofs.Common.{◌≡◌, ℕ, zero, suc, ◌+◌, ◌<◌, ◌≤◌, ◌↔◌, List, [], ◌∷◌, length, get_or, Result, Err, refl, arith}
+use Rattle.std.specs.Prelude.{All, IsOkAnd}
 use Rattle.c_tree.specs.declared.token.Token.{Token}
-use Rattle.c_tree.specs.declared.unit.Unit.{Unit as Tree}
-use Rattle.c_tree.specs.declared.program.Program.{Program}
 use Rattle.c_tree.specs.Lexing.{Lexes}
 use Rattle.c_tree.specs.Places.{AreInOrder}
 use Rattle.c_token.specs.declared.fault.TokenFault.{TokenFault}
 use Rattle.c_token.specs.declared.fault.TokenFault.TheVariants as token
 use Rattle.c_token.specs.Faults.{HasStrayByte, HasOpenComment, HasBadNumber, HasBadDirective}
-use Rattle.c_token.specs.Answers.{UnlessNoMemory, IsFault}
+use Rattle.c_token.specs.Answers.{UnlessNoMemory}
 use Rattle.c_parse.specs.Lexeme.{IsWithin}
-use Rattle.c_form.specs.Form.{IsOfForm}
-use Rattle.squeeze_top.specs.Accepted.{IsRead, SpellsProgram, TokenCause, HasNoTokens, HasNoProgram}
+use Rattle.squeeze_top.specs.Halts.{IsTextHalt, token_halt}
 
 -- ---- places
 
@@ -31,24 +28,16 @@ in_order_within text ts h = within_at text ts 0 h
 
 -- ---- refusals
 
--- a text with a fault has no tokens
-pub token_failed : {T : Type 0} (text : List ℕ) (fault : TokenFault) (P : List Token → T → Type 0) → fault ≢ token.NoMemory
+-- the work on a text with a fault stops as the fault says
+pub token_failed : {T : Type 0} (text entry : List ℕ) (fault : TokenFault) (P : List Token → T → Type 0)
     → ((at : ℕ) → let r : Result T TokenFault = Err fault in UnlessNoMemory r ((r ≡ Err (token.Byte at)) ↔ HasStrayByte text at))
     → ((at : ℕ) → let r : Result T TokenFault = Err fault in UnlessNoMemory r ((r ≡ Err (token.Comment at)) ↔ HasOpenComment text at))
     → ((at : ℕ) → let r : Result T TokenFault = Err fault in UnlessNoMemory r ((r ≡ Err (token.Number at)) ↔ HasBadNumber text at))
     → ((at : ℕ) → let r : Result T TokenFault = Err fault in UnlessNoMemory r ((r ≡ Err (token.Directive at)) ↔ HasBadDirective text at))
     → ((ts : List Token) → Lexes text ts → let r : Result T TokenFault = Err fault in UnlessNoMemory r (IsOkAnd r (P ts)))
-    → HasNoTokens fault text
-token_failed text (token.Byte at) P some byte comment number directive complete = record { cause = (byte at).0 refl; none = λ ts lexes. complete ts lexes }
-token_failed text (token.Comment at) P some byte comment number directive complete = record { cause = (comment at).0 refl; none = λ ts lexes. complete ts lexes }
-token_failed text (token.Number at) P some byte comment number directive complete = record { cause = (number at).0 refl; none = λ ts lexes. complete ts lexes }
-token_failed text (token.Directive at) P some byte comment number directive complete = record { cause = (directive at).0 refl; none = λ ts lexes. complete ts lexes }
-token_failed text token.NoMemory P some byte comment number directive complete = absurd (some refl)
-
--- a unit that is not of the form, where the text has no other
-pub no_program : (text : List ℕ) (unit : Tree) → IsRead text unit → ((other : Tree) → IsRead text other → other ≡ unit) → ((p : Program) → IsOfForm unit p → ⊥) → HasNoProgram text
-no_program text unit read only none = record {
-  unit = unit;
-  read = read;
-  none = λ p spells. none p (subst (λ (u : Tree). IsOfForm u p) (only spells.unit spells.read) spells.form);
-}
+    → IsTextHalt (token_halt fault) text entry
+token_failed text entry (token.Byte at) P byte comment number directive complete = record { cause = (byte at).0 refl; none = λ ts lexes. complete ts lexes }
+token_failed text entry (token.Comment at) P byte comment number directive complete = record { cause = (comment at).0 refl; none = λ ts lexes. complete ts lexes }
+token_failed text entry (token.Number at) P byte comment number directive complete = record { cause = (number at).0 refl; none = λ ts lexes. complete ts lexes }
+token_failed text entry (token.Directive at) P byte comment number directive complete = record { cause = (directive at).0 refl; none = λ ts lexes. complete ts lexes }
+token_failed text entry token.NoMemory P byte comment number directive complete = tt

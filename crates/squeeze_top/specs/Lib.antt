@@ -1,7 +1,9 @@
-pub mod Dear
 pub mod Words
 pub mod Accepted
-pub mod Failures
+pub mod Answers
+pub mod Refusing
+pub mod Halts
+pub mod Tasks
 pub mod Lines
-pub mod Verdicts
 pub mod Statuses
+pub mod Told

@@ -1,64 +1,100 @@
-//! From a text to its unit.
+//! From a text to its program.
 
-ghost use Rattle.std.specs.Prelude.{◌≡◌, ◌≢◌, ◌≤◌, ◌<◌, ◌^◌, List, All, length, IfOk, IfErr};
+ghost use Rattle.std.specs.Prelude.{◌≡◌, ◌≢◌, ◌≤◌, ◌<◌, ◌^◌, List, ℕ, All, length, IfOk, IfErr};
 ghost use Rattle.c_tree.specs.declared.token.Token.{Token};
 ghost use Rattle.c_tree.specs.declared.unit.Unit.{Unit as Tree};
 ghost use Rattle.c_tree.specs.Heights.{unit_height};
 ghost use Rattle.c_tree.specs.Lexing.{Lexes};
-ghost use Rattle.c_tree.specs.Places.{AreInOrder};
 ghost use Rattle.c_tree.specs.Spelling.{Spells};
+ghost use Rattle.c_tree.specs.WellFormed.{WellFormed};
 ghost use Rattle.c_parse.specs.Lexeme.{IsWithin};
-ghost use Rattle.squeeze_top.specs.Accepted.{IsRead, HasNoTokens, ParseCause};
-ghost use Rattle.squeeze_top.specs.Failures.{IsFailure};
+ghost use Rattle.squeeze_top.specs.Accepted.{IsRead, IsAccepted};
+ghost use Rattle.squeeze_top.specs.Halts.{IsTextHalt, token_halt, parse_halt, check_halt};
 
-use crate::refusal::Refusal;
-use c_parse::{ParseFault, parse};
-use c_token::{TokenFault, tokens};
-use c_tree::{Token, Unit};
+use crate::refusal::{Halt, Refusal};
+use c_check::{CheckFault, check};
+use c_parse::{ParseFault, one_tree, parse};
+use c_token::{TokenFault, one_reading, tokens};
+use c_tree::{Program, Token, Unit};
 use std::alloc::Global;
+use typed_laws::laws::typed::typed_programs_are_well_formed;
 
-/// Why there is no unit.
-#[derive(Clone, Copy, Debug, PartialEq, Eq)]
-pub(crate) enum Failure {
-    Refused(Refusal),
-    NoMemory,
+/// A text has at most one unit.
+pub(crate) fn one_unit()
+    ensures { (text : List ℕ) (a b : Tree) → IsRead text a → IsRead text b → a ≡ b }
+{
+    one_reading();
+    one_tree();
 }
 
-/// The unit of a text.
-pub(crate) fn unit_of(alloc: Global, text: &[u8]) -> Result<Unit, Failure>
+/// The program of a text, with this entry.
+pub(crate) fn program_of(alloc: Global, text: &[u8], entry: &str) -> Result<Program, Halt>
     requires { length text.now ≤ 1048576 }
-    ensures read { IfOk result (λ unit. IsRead text.now unit) }
-    ensures only { IfOk result (λ unit. (other : Tree) → IsRead text.now other → other ≡ unit) }
-    ensures failed { IfErr result (λ failure. IsFailure failure text.now) }
+    ensures accepted { IfOk result (IsAccepted text.now entry.now) }
+    ensures formed { IfOk result WellFormed }
+    ensures halted { IfErr result (λ halt. IsTextHalt halt text.now entry.now) }
 {
+    typed_programs_are_well_formed();
+    let unit = unit_of(alloc, text)?;
+    match check(alloc, unit, entry) {
+        Ok(program) => Ok(program),
+        Err(fault) => Err(check_halt(fault)),
+    }
+}
+
+fn check_halt(fault: CheckFault) -> Halt
+    ensures { result ≡ check_halt fault }
+{
+    if fault == CheckFault::NoMemory {
+        Halt::NoMemory
+    } else {
+        Halt::Refused(Refusal::Check(fault))
+    }
+}
+
+// The unit of a text.
+fn unit_of(alloc: Global, text: &[u8]) -> Result<Unit, Halt>
+    requires { length text.now ≤ 1048576 }
+    ensures read { IfOk result (IsRead text.now) }
+    ensures halted { (entry : List ℕ) → IfErr result (λ halt. IsTextHalt halt text.now entry) }
+{
+    one_reading();
     let tokens = tokens_of(alloc, text)?;
     match parse(alloc, text, &tokens) {
         Ok(unit) => Ok(unit),
-        Err(ParseFault::NoMemory) => Err(Failure::NoMemory),
-        Err(fault) => Err(Failure::Refused(Refusal::Parse(fault))),
+        Err(fault) => Err(parse_halt(fault)),
+    }
+}
+
+fn parse_halt(fault: ParseFault) -> Halt
+    ensures { result ≡ parse_halt fault }
+{
+    match fault {
+        ParseFault::NoMemory => Halt::NoMemory,
+        ParseFault::Syntax { at } => Halt::Refused(Refusal::Parse(ParseFault::Syntax { at })),
+        ParseFault::Depth { at } => Halt::Refused(Refusal::Parse(ParseFault::Depth { at })),
     }
 }
 
 // The tokens of a text.
-fn tokens_of(alloc: Global, text: &[u8]) -> Result<Vec<Token>, Failure>
+fn tokens_of(alloc: Global, text: &[u8]) -> Result<Vec<Token>, Halt>
     requires { length text.now ≤ 1048576 }
     ensures lexed { IfOk result (λ v. Lexes text.now v.items) }
-    ensures only { IfOk result (λ v. (ts : List Token) → Lexes text.now ts → v.items ≡ ts) }
     ensures within { IfOk result (λ v. All (IsWithin text.now) v.items) }
-    ensures failed { IfErr result (λ failure. IsFailure failure text.now) }
+    ensures halted { (entry : List ℕ) → IfErr result (λ halt. IsTextHalt halt text.now entry) }
 {
     match tokens(alloc, text) {
         Ok(tokens) => Ok(tokens),
-        Err(TokenFault::NoMemory) => Err(Failure::NoMemory),
-        Err(TokenFault::Byte { at }) => Err(no_tokens(TokenFault::Byte { at })),
-        Err(TokenFault::Comment { at }) => Err(no_tokens(TokenFault::Comment { at })),
-        Err(TokenFault::Number { at }) => Err(no_tokens(TokenFault::Number { at })),
-        Err(TokenFault::Directive { at }) => Err(no_tokens(TokenFault::Directive { at })),
+        Err(fault) => Err(token_halt(fault)),
     }
 }
 
-fn no_tokens(fault: TokenFault) -> Failure
-    ensures { result ≡ Failure.Refused (Refusal.Tokens fault) }
+fn token_halt(fault: TokenFault) -> Halt
+    ensures { result ≡ token_halt fault }
 {
-    Failure::Refused(Refusal::Tokens(fault))
+    if fault == TokenFault::NoMemory {
+        Halt::NoMemory
+    } else {
+        Halt::Refused(Refusal::Tokens(fault))
+    }
 }

@@ -1,49 +1,113 @@
 //! The top call.
 
-ghost use Rattle.std.specs.Prelude.{◌≡◌, ◌≢◌, ◌≤◌, ◌⊎◌, List, ℕ, length, map, IsSome, None};
-ghost use Rattle.wc_outside.specs.Causes.{Rose};
+ghost use Rattle.std.specs.Prelude.{◌≡◌, ◌≢◌, ◌≤◌, ◌<◌, ◌⊎◌, List, ℕ, length, map, IsSome, IfOk, IfErr, OnOk, OnErr};
+ghost use Rattle.wc_outside.specs.Causes.{Rose, HasCause};
 ghost use Rattle.wc_outside.specs.Growth.{Grew, GrewByPrefix};
-ghost use Rattle.c_tree.specs.declared.program.Program.{Program};
-ghost use Rattle.squeeze_top.specs.Accepted.{IsAccepted, SpellsProgram};
+ghost use Rattle.squeeze_top.specs.Told.{Answers, Refused, IsWritten, IsRefusedWith, IsWrittenInPart};
+ghost use Rattle.squeeze_top.specs.declared.refusal.Refusal.{Refusal};
+ghost use Rattle.squeeze_top.specs.declared.refusal.Halt.TheVariants as halt;
+ghost use Rattle.squeeze_top.specs.Halts.{IsWordsHalt, Counts};
 ghost use Rattle.squeeze_top.specs.Lines.{line_of};
-ghost use Rattle.squeeze_top.specs.Verdicts.{IsText, IsToldAs, IsToldBound, IsToldRefused, IsToldInPart};
-ghost use Rattle.squeeze_top.specs.declared.verdict.Verdict.TheVariants.{WordsRefused};
 ghost use Rattle.squeeze_top.specs.Statuses.{status_of};
-ghost use Rattle.squeeze_top.specs.Words.{file_to_bound};
+ghost use Rattle.squeeze_top.specs.Words.{request_of};
 
 use crate::Status;
 use crate::line::line_of;
-use crate::verdict::{Stop, Verdict, judge};
+use crate::reading::one_unit;
+use crate::refusal::{Halt, Refusal};
+use crate::words::job_of;
+use crate::work::answer;
+use c_run::one_input;
 use std::alloc::Global;
 use std::sync::Wait;
 use std::thread::Threads;
-use wc_outside::{Gate, Shelf, Sink, put_all};
+use wc_outside::{Failed, Gate, Shelf, Sink, put_all};
 
-// Writes the verdict's line, and answers its status.
-fn tell<K: Sink>(alloc: Global, out: &mut K, verdict: Verdict) -> Status
-    ensures told { result ≢ Status.WriteFault → result ≢ Status.NoMemory → (result ≡ status_of verdict) × Grew (K.written out.old) (K.written out.new) (line_of verdict) }
-    ensures part { result ≡ Status.WriteFault → GrewByPrefix (K.written out.old) (K.written out.new) (line_of verdict) × Rose (K.faults out.old) (K.faults out.new) }
-    ensures memory { result ≡ Status.NoMemory → K.written out.new ≡ K.written out.old }
-    ensures read { result ≢ Status.ReadFault }
+// The answer to the words.
+fn answer_to<S: Shelf>(alloc: Global, words: &[&str], shelf: &mut S) -> Result<Vec<u8>, Halt>
+    ensures answered { IfOk result (λ text. Answers (map (λ w. w.now) words.now) (S.contents shelf.old) text.items) }
+    ensures halted { IfErr result (λ halt. IsWordsHalt halt (request_of (map (λ w. w.now) words.now)) (S.contents shelf.old)) }
+    ensures counts { Counts result (S.faults shelf.old) (S.faults shelf.new) }
+    ensures same { S.contents shelf.new ≡ S.contents shelf.old }
+{
+    match job_of(words) {
+        Some(job) => answer(alloc, &job, shelf),
+        None => Err(Halt::Refused(Refusal::Words)),
+    }
+}
+
+// How long the first line of a text is, with its line feed.
+fn line_length(text: &[u8]) -> usize
+    requires { 0 < length text.now }
+    ensures some { 0 < result }
+    ensures within { result ≤ length text.now }
+{
+    match text.iter().position(|byte| *byte == b'\n') {
+        Some(at) => at + 1,
+        None => text.len(),
+    }
+}
+
+// Writes a text line by line.
+fn put_lines<K: Sink>(out: &mut K, text: &[u8]) -> Result<(), Failed>
+    ensures written { OnOk result (Grew (K.written out.old) (K.written out.new) text.now) }
+    ensures part { OnErr result (GrewByPrefix (K.written out.old) (K.written out.new) text.now) }
+    ensures cause { HasCause (K.faults out.old) (K.faults out.new) result }
+{
+    let mut rest = text;
+    while !rest.is_empty() {
+        let (line, more) = rest.split_at(line_length(rest));
+        put_all(out, line)?;
+        rest = more;
+    }
+    Ok(())
+}
+
+// Writes an answer.
+fn tell<K: Sink>(out: &mut K, text: &[u8]) -> Status
+    ensures told { result ≡ Status.Whole → Grew (K.written out.old) (K.written out.new) text.now }
+    ensures part { result ≡ Status.WriteFault → GrewByPrefix (K.written out.old) (K.written out.new) text.now × Rose (K.faults out.old) (K.faults out.new) }
+    ensures only { result ≡ Status.Whole ⊎ result ≡ Status.WriteFault }
     ensures kept { result ≢ Status.WriteFault → K.faults out.new ≡ K.faults out.old }
     ensures later { K.faults out.old ≤ K.faults out.new }
 {
-    let Ok(line) = line_of(alloc, verdict) else {
-        return Status::NoMemory;
-    };
-    match put_all(out, &line) {
-        Ok(()) => verdict.status(),
+    match put_lines(out, text) {
+        Ok(()) => Status::Whole,
         Err(_) => Status::WriteFault,
     }
 }
 
-/// Does all that the program does: reads the words, reads the file that they name, bounds its program, and writes one
-/// line. `rt` and `gate` are for modes with workers, of which there is none today.
+// Writes the line of a refusal.
+fn refuse<K: Sink>(alloc: Global, out: &mut K, refusal: &Refusal) -> Status
+    ensures told { result ≢ Status.WriteFault → result ≢ Status.NoMemory → (result ≡ status_of refusal.now) × Grew (K.written out.old) (K.written out.new) (line_of refusal.now) }
+    ensures part { result ≡ Status.WriteFault → GrewByPrefix (K.written out.old) (K.written out.new) (line_of refusal.now) × Rose (K.faults out.old) (K.faults out.new) }
+    ensures memory { result ≡ Status.NoMemory → K.written out.new ≡ K.written out.old }
+    ensures refused { result ≢ Status.Whole × result ≢ Status.ReadFault × result ≢ Status.Inexact }
+    ensures kept { result ≢ Status.WriteFault → K.faults out.new ≡ K.faults out.old }
+    ensures later { K.faults out.old ≤ K.faults out.new }
+{
+    let Ok(line) = line_of(alloc, refusal) else {
+        return Status::NoMemory;
+    };
+    match put_all(out, &line) {
+        Ok(()) => refusal.status(),
+        Err(_) => Status::WriteFault,
+    }
+}
+
+/// Does all that the program does: reads the words, reads the files that they name, and writes the answer, or the line of
+/// the first refusal. `rt` and `gate` are for modes with workers, of which there is none today.
 ///
-/// A file is read by the words `bound NAME`, where NAME begins with no `-`. The order of refusals is: the words, a fault
-/// of the shelf, a text of more than 1,048,576 bytes, one that is no tokens, one whose tokens spell no unit that is no
-/// higher than 128, one whose unit is not of the form, a fault of the sink. Want of memory may come before any of them. The
-/// clauses that speak of a text hold where the shelf tells its contents.
+/// The words are `MODE FILE`, and then, where they are given, `--costs NAME`, `--entry NAME` and `--input TEXT`, in this
+/// order; no name and no text begins with `-`. The modes are `bound`, which writes the bound of a program without loops;
+/// `blocks`, which writes each block with its cost; `run`, which writes how the run on the input ends; and `print`, which
+/// writes the program. Without `--costs` each block costs 1; the entry is `main` where none is named, and the input is empty
+/// where none is given.
+///
+/// The order of work, and so of refusals, is: the words; the program's bytes and their size; its tokens; its unit; its
+/// names, kinds and bounds; the input of a run; the table's bytes and their size; the table's costs; the
+/// limits of the flat graph; a loop, where the bound is asked for; and a fault of the sink. A fault of the shelf stands where its file is read. Want of memory may come before any of them. The
+/// clauses that speak of a file hold where the shelf tells its contents.
 pub fn wcet_main<R: Threads + Wait + Sync, S: Shelf, K: Sink, G: Gate + Sync>(
     _rt: &R,
     alloc: Global,
@@ -52,26 +116,25 @@ pub fn wcet_main<R: Threads + Wait + Sync, S: Shelf, K: Sink, G: Gate + Sync>(
     out: &mut K,
     _gate: &G,
 ) -> Status
-    // What each status says of the words, of the file and of what was written.
-    ensures whole { result ≡ Status.Whole → IsToldBound (map (λ w. w.now) words.now) (S.contents shelf.old) (K.written out.old) (K.written out.new) }
-    ensures words { result ≡ Status.Words → IsToldAs WordsRefused (map (λ w. w.now) words.now) (S.contents shelf.old) (K.written out.old) (K.written out.new) }
-    ensures program { result ≡ Status.Program → IsToldRefused (map (λ w. w.now) words.now) (S.contents shelf.old) (K.written out.old) (K.written out.new) }
-    ensures read { result ≡ Status.ReadFault → IsSome (file_to_bound (map (λ w. w.now) words.now)) × Rose (S.faults shelf.old) (S.faults shelf.new) × (K.written out.new ≡ K.written out.old) }
-    ensures write { result ≡ Status.WriteFault → IsToldInPart (map (λ w. w.now) words.now) (S.contents shelf.old) (K.written out.old) (K.written out.new) × Rose (K.faults out.old) (K.faults out.new) }
+    // What each status says of the words, of the files and of what was written.
+    ensures whole { result ≡ Status.Whole → IsWritten (map (λ w. w.now) words.now) (S.contents shelf.old) (K.written out.old) (K.written out.new) }
+    ensures words { result ≡ Status.Words → IsRefusedWith Status.Words (map (λ w. w.now) words.now) (S.contents shelf.old) (K.written out.old) (K.written out.new) }
+    ensures program { result ≡ Status.Program → IsRefusedWith Status.Program (map (λ w. w.now) words.now) (S.contents shelf.old) (K.written out.old) (K.written out.new) }
+    ensures costs { result ≡ Status.Costs → IsRefusedWith Status.Costs (map (λ w. w.now) words.now) (S.contents shelf.old) (K.written out.old) (K.written out.new) }
+    ensures read { result ≡ Status.ReadFault → IsSome (request_of (map (λ w. w.now) words.now)) × Rose (S.faults shelf.old) (S.faults shelf.new) × (K.written out.new ≡ K.written out.old) }
+    ensures write { result ≡ Status.WriteFault → IsWrittenInPart (map (λ w. w.now) words.now) (S.contents shelf.old) (K.written out.old) (K.written out.new) × Rose (K.faults out.old) (K.faults out.new) }
     ensures memory { result ≡ Status.NoMemory → K.written out.new ≡ K.written out.old }
-    ensures other { (result ≡ Status.Inexact ⊎ result ≡ Status.Costs) → ⊥ }
+    ensures other { result ≢ Status.Inexact }
 
-    // Where nothing fails outside, the text of a program is bounded, if memory serves.
-    ensures complete { (text : List ℕ) (program : Program) → IsText (map (λ w. w.now) words.now) (S.contents shelf.old) text → IsAccepted text program
+    // Where the contents are told and nothing fails outside, an answer that there is is written, if memory serves.
+    ensures answered { (text : List ℕ) → IsSome (S.contents shelf.old) → Answers (map (λ w. w.now) words.now) (S.contents shelf.old) text
         → ¬ (Rose (S.faults shelf.old) (S.faults shelf.new)) → ¬ (Rose (K.faults out.old) (K.faults out.new))
-        → result ≡ Status.Whole ⊎ result ≡ Status.NoMemory }
+        → ((result ≡ Status.Whole) × Grew (K.written out.old) (K.written out.new) text) ⊎ result ≡ Status.NoMemory }
 
-    // The refusals come where they must.
-    ensures refused { file_to_bound (map (λ w. w.now) words.now) ≡ None → ¬ (Rose (K.faults out.old) (K.faults out.new)) → result ≡ Status.Words ⊎ result ≡ Status.NoMemory }
-    ensures no_program { (text : List ℕ) → IsText (map (λ w. w.now) words.now) (S.contents shelf.old) text
-        → (1048577 ≤ length text ⊎ ((program : Program) → ¬ (SpellsProgram text program)))
+    // Where what is refused is refused so, the status is that of the refusal.
+    ensures refused { (refusal : Refusal) → IsSome (S.contents shelf.old) → Refused (map (λ w. w.now) words.now) (S.contents shelf.old) refusal
         → ¬ (Rose (S.faults shelf.old) (S.faults shelf.new)) → ¬ (Rose (K.faults out.old) (K.faults out.new))
-        → result ≡ Status.Program ⊎ result ≡ Status.NoMemory }
+        → result ≡ status_of refusal ⊎ result ≡ Status.NoMemory }
 
     // No fault is passed over.
     ensures no_read_fault { result ≢ Status.ReadFault → S.faults shelf.new ≡ S.faults shelf.old }
@@ -81,9 +144,12 @@ pub fn wcet_main<R: Threads + Wait + Sync, S: Shelf, K: Sink, G: Gate + Sync>(
     ensures sink_later { K.faults out.old ≤ K.faults out.new }
     ensures same { S.contents shelf.new ≡ S.contents shelf.old }
 {
-    match judge(alloc, words, shelf) {
-        Ok(verdict) => tell(alloc, out, verdict),
-        Err(Stop::ReadFault) => Status::ReadFault,
-        Err(Stop::NoMemory) => Status::NoMemory,
+    one_unit();
+    one_input();
+    match answer_to(alloc, words, shelf) {
+        Ok(text) => tell(out, &text),
+        Err(Halt::Refused(refusal)) => refuse(alloc, out, &refusal),
+        Err(Halt::ReadFault) => Status::ReadFault,
+        Err(Halt::NoMemory) => Status::NoMemory,
     }
 }

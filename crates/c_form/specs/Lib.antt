@@ -1,4 +1,0 @@
-pub mod Names
-pub mod Scopes
-pub mod Straight
-pub mod Form

@@ -1,0 +1,6 @@
+use Rattle.std.proofs.Common.{◌≡◌, ◌++◌, take, flat_map}
+use Rattle.c_print.specs.Printed.{global_text}
+use Rattle.c_print.proofs.printing.push_globals.Given as goal
+
+abbrev pub invariant-loop-global : goal.invariant-loop-global
+invariant-loop-global l = l.text.items ≡ l.fn.text.items ++ flat_map global_text (take l.global-index l.globals)

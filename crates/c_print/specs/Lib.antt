@@ -1,0 +1,5 @@
+pub mod PrintedExpressions
+pub mod PrintedStatements
+pub mod Printed
+pub mod Again
+pub mod Worked

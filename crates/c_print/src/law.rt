@@ -1,0 +1,79 @@
+//! Worked texts.
+
+ghost use Rattle.std.specs.Prelude.{◌≡◌, ◌++◌, codes};
+ghost use Rattle.c_tree.specs.declared.tree.Ty.TheVariants as ty;
+ghost use Rattle.c_tree.specs.declared.tree.UnOp.TheVariants as un;
+ghost use Rattle.c_tree.specs.declared.tree.BinOp.TheVariants as op;
+ghost use Rattle.c_tree.specs.declared.tree.Expr.TheVariants.{Num, Un, Cast, Bin, Cond};
+ghost use Rattle.c_print.specs.Printed.{printed};
+ghost use Rattle.c_print.specs.Worked.{return_of_zero, each_construct, a, b, c, shown};
+
+/// Programs and their texts.
+pub fn worked_programs()
+    ensures zero { printed return_of_zero ≡ codes "int main(void) {\n    return 0;\n}\n" }
+    ensures each { printed each_construct ≡
+        codes "extern unsigned mode;\n"
+        ++ codes "extern int sample[4];\n"
+        ++ codes "int low = -5;\n"
+        ++ codes "unsigned mask = 4294967295u;\n"
+        ++ codes "int least = (int)2147483648u;\n"
+        ++ codes "int table[3] = {1, -2};\n"
+        ++ codes "int last;\n"
+        ++ codes "void note(int x) {\n"
+        ++ codes "    table[0] = x;\n"
+        ++ codes "    return;\n"
+        ++ codes "}\n"
+        ++ codes "unsigned pick(int a, unsigned b) {\n"
+        ++ codes "    return b;\n"
+        ++ codes "}\n"
+        ++ codes "int main(void) {\n"
+        ++ codes "    int r;\n"
+        ++ codes "    int list[2] = {1, 2};\n"
+        ++ codes "    int q = pick(1, mode);\n"
+        ++ codes "    r = pick(1, 2u);\n"
+        ++ codes "    note(r);\n"
+        ++ codes "#pragma loopbound 4\n"
+        ++ codes "    while (q) {\n"
+        ++ codes "        if (r) {\n"
+        ++ codes "            continue;\n"
+        ++ codes "        } else {\n"
+        ++ codes "            {\n"
+        ++ codes "                q = 0;\n"
+        ++ codes "            }\n"
+        ++ codes "        }\n"
+        ++ codes "    }\n"
+        ++ codes "#pragma loopbound 3\n"
+        ++ codes "    do {\n"
+        ++ codes "#pragma loopbound 2\n"
+        ++ codes "        for (int i = 0; i < 2; i += 1) {\n"
+        ++ codes "            ;\n"
+        ++ codes "        }\n"
+        ++ codes "#pragma loopbound 1\n"
+        ++ codes "        for (; 1; ) {\n"
+        ++ codes "            break;\n"
+        ++ codes "        }\n"
+        ++ codes "    } while (0);\n"
+        ++ codes "    if (r) {\n"
+        ++ codes "        return 1;\n"
+        ++ codes "    }\n"
+        ++ codes "    return list[0];\n"
+        ++ codes "}\n" }
+{}
+
+/// Expressions: parentheses stand only where the tree needs them, and round a unary operand that is itself unary.
+pub fn worked_expressions()
+    ensures left { shown (Bin op.Sub (Bin op.Sub a b) c) ≡ codes "a - b - c" }
+    ensures right { shown (Bin op.Sub a (Bin op.Sub b c)) ≡ codes "a - (b - c)" }
+    ensures looser { shown (Bin op.Mul (Bin op.Add a b) c) ≡ codes "(a + b) * c" }
+    ensures tighter { shown (Bin op.Add a (Bin op.Mul b c)) ≡ codes "a + b * c" }
+    ensures minus { shown (Un un.Minus (Un un.Minus a)) ≡ codes "-(-a)" }
+    ensures other { shown (Un un.Not (Un un.Flip a)) ≡ codes "!(~a)" }
+    ensures subtracted { shown (Bin op.Sub a (Un un.Minus b)) ≡ codes "a - -b" }
+    ensures cast { shown (Un un.Minus (Cast ty.Unsigned (Un un.Plus a))) ≡ codes "-(unsigned)+a" }
+    ensures twice { shown (Cast ty.Int (Cast ty.Unsigned a)) ≡ codes "(int)(unsigned)a" }
+    ensures sum { shown (Cast ty.Int (Bin op.Add a b)) ≡ codes "(int)(a + b)" }
+    ensures chain { shown (Cond a b (Cond b c a)) ≡ codes "a ? b : b ? c : a" }
+    ensures middle { shown (Cond a (Cond b c a) c) ≡ codes "a ? b ? c : a : c" }
+    ensures condition { shown (Cond (Cond a b c) b c) ≡ codes "(a ? b : c) ? b : c" }
+    ensures suffix { shown (Bin op.Shl (Num ty.Unsigned 1) a) ≡ codes "1u << a" }
+{}

@@ -1,0 +1,13 @@
+//! The printed text of a program: one declaration or statement a line, in the order of the program, the globals first.
+#![tactic(auto)]
+
+mod exprs;
+pub mod law;
+mod parts;
+mod printing;
+mod simple;
+mod stmts;
+#[cfg(test)]
+mod tests;
+
+pub use printing::print;

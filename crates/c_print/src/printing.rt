@@ -1,0 +1,153 @@
+//! The text of a program.
+
+ghost use Rattle.std.specs.Prelude.{◌≡◌, ◌++◌, IfOk, OnOk, take, codes, flat_map};
+ghost use Rattle.c_print.specs.PrintedExpressions.{value_text, joined};
+ghost use Rattle.c_print.specs.PrintedStatements.{list_text};
+ghost use Rattle.c_print.specs.Printed.{outer_text, initial_text, global_text, result_text, param_text, params_text, head_text, func_text, printed};
+
+use crate::parts::{push, push_declared, push_value, type_text};
+use crate::stmts::push_block;
+use c_tree::{Func, Global as Outside, Local, NoMemory, Program, Ty};
+use std::alloc::Global;
+
+/// The text of a program: one declaration or statement a line in the order of the program, the globals first, four blanks
+/// a level, braces always, and the bound of a loop at the beginning of the line before it. `NoMemory` is want of memory.
+#[tactic(auto, unfolding(crate::specs::Printed::printed))]
+pub fn print(alloc: Global, program: &Program) -> Result<Vec<u8>, NoMemory>
+    ensures text { IfOk result (λ t. t.items ≡ printed program.now) }
+{
+    let mut text = Vec::new(alloc);
+    push_globals(&mut text, program.globals.as_slice())?;
+    push_funcs(&mut text, program, program.funcs.as_slice())?;
+    Ok(text)
+}
+
+fn push_globals(text: &mut Vec<u8>, globals: &[Outside]) -> Result<(), NoMemory>
+    ensures { OnOk result (text.new.items ≡ text.old.items ++ flat_map global_text globals.now) }
+{
+    for global in globals {
+        push_global(text, global)?;
+    }
+    Ok(())
+}
+
+#[tactic(auto, unfolding(crate::specs::Printed::global_text, crate::specs::Printed::outer_text))]
+fn push_global(text: &mut Vec<u8>, global: &Outside) -> Result<(), NoMemory>
+    ensures { OnOk result (text.new.items ≡ text.old.items ++ global_text global.now) }
+{
+    if global.outer {
+        push(text, b"extern ")?;
+    }
+    push_declared(text, global.ty, global.name.as_slice(), global.length)?;
+    push_initial(text, global.ty, global.length, global.values.as_slice())?;
+    push(text, b";\n")
+}
+
+// The initialiser of a global of this type and length.
+#[tactic(auto, unfolding(crate::specs::Printed::initial_text, crate::specs::PrintedStatements::list_text, crate::specs::PrintedExpressions::joined))]
+fn push_initial(
+    text: &mut Vec<u8>,
+    ty: Ty,
+    length: Option<u32>,
+    values: &[i64],
+) -> Result<(), NoMemory>
+    ensures { OnOk result (text.new.items ≡ text.old.items ++ initial_text ty length values.now) }
+{
+    let Some((first, rest)) = values.split_first() else {
+        return Ok(());
+    };
+    push(text, b" = ")?;
+    match length {
+        None => push_value(text, ty, *first),
+        Some(_) => {
+            push(text, b"{")?;
+            push_value(text, ty, *first)?;
+            push_more_values(text, ty, rest)?;
+            push(text, b"}")
+        }
+    }
+}
+
+fn push_more_values(text: &mut Vec<u8>, ty: Ty, values: &[i64]) -> Result<(), NoMemory>
+    ensures { OnOk result (text.new.items ≡ text.old.items ++ flat_map (λ z. codes ", " ++ value_text ty z) values.now) }
+{
+    for value in values {
+        push(text, b", ")?;
+        push_value(text, ty, *value)?;
+    }
+    Ok(())
+}
+
+fn push_funcs(text: &mut Vec<u8>, program: &Program, funcs: &[Func]) -> Result<(), NoMemory>
+    ensures { OnOk result (text.new.items ≡ text.old.items ++ flat_map (func_text program.now) funcs.now) }
+{
+    for func in funcs {
+        push_func(text, program, func)?;
+    }
+    Ok(())
+}
+
+#[tactic(auto, unfolding(crate::specs::Printed::func_text))]
+fn push_func(text: &mut Vec<u8>, program: &Program, func: &Func) -> Result<(), NoMemory>
+    ensures { OnOk result (text.new.items ≡ text.old.items ++ func_text program.now func.now) }
+{
+    push_head(text, func)?;
+    push_block(text, program, func, 0, func.body.as_slice())?;
+    push(text, b"}\n")
+}
+
+// The first line of a function.
+#[tactic(auto, unfolding(crate::specs::Printed::head_text))]
+fn push_head(text: &mut Vec<u8>, func: &Func) -> Result<(), NoMemory>
+    ensures { OnOk result (text.new.items ≡ text.old.items ++ head_text func.now) }
+{
+    push_result(text, func.result)?;
+    push(text, b" ")?;
+    push(text, func.name.as_slice())?;
+    push(text, b"(")?;
+    push_params(text, func)?;
+    push(text, b") {\n")
+}
+
+#[tactic(auto, unfolding(crate::specs::Printed::result_text))]
+fn push_result(text: &mut Vec<u8>, given: Option<Ty>) -> Result<(), NoMemory>
+    ensures { OnOk result (text.new.items ≡ text.old.items ++ result_text given) }
+{
+    match given {
+        None => push(text, b"void"),
+        Some(ty) => push(text, type_text(ty)),
+    }
+}
+
+// The parameters of a function.
+fn push_params(text: &mut Vec<u8>, func: &Func) -> Result<(), NoMemory>
+    ensures { OnOk result (text.new.items ≡ text.old.items ++ params_text (take func.now.params func.now.locals)) }
+{
+    let locals = func.locals.as_slice();
+    let count = locals.len().min(func.params as usize);
+    push_listed(text, &locals[..count])
+}
+
+#[tactic(auto, unfolding(crate::specs::Printed::params_text, crate::specs::Printed::param_text, crate::specs::PrintedExpressions::joined))]
+fn push_listed(text: &mut Vec<u8>, params: &[Local]) -> Result<(), NoMemory>
+    ensures { OnOk result (text.new.items ≡ text.old.items ++ params_text params.now) }
+{
+    match params.split_first() {
+        None => push(text, b"void"),
+        Some((first, rest)) => {
+            push_declared(text, first.ty, first.name.as_slice(), first.length)?;
+            push_more_params(text, rest)
+        }
+    }
+}
+
+#[tactic(auto, unfolding(crate::specs::Printed::param_text))]
+fn push_more_params(text: &mut Vec<u8>, params: &[Local]) -> Result<(), NoMemory>
+    ensures { OnOk result (text.new.items ≡ text.old.items ++ flat_map (λ l. codes ", " ++ param_text l) params.now) }
+{
+    for local in params {
+        push(text, b", ")?;
+        push_declared(text, local.ty, local.name.as_slice(), local.length)?;
+    }
+    Ok(())
+}

@@ -1,0 +1,16 @@
+pub mod AmountLayers
+pub mod Sums
+pub mod Totals
+pub mod BlockSizes
+pub mod Tame
+pub mod Alike
+pub mod Kept
+pub mod Laid
+pub mod Copied
+pub mod Along
+pub mod Called
+pub mod Parts
+pub mod Unfolded
+pub mod Drawn
+pub mod Measured
+pub mod Worked

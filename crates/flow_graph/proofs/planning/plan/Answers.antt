@@ -1,0 +1,37 @@
+use Rattle.std.proofs.Common.{◌∙◌, ap, sym, arith, length}
+use Rattle.flow_laws.specs.Graphs.{graph}
+use Rattle.flow_laws.proofs.Turned.{graph_turned}
+use Rattle.flow_graph.specs.Joints.{spot_edges, spot_loops}
+use Rattle.flow_graph.proofs.Drawn.{edges_are, loops_are}
+use Rattle.flow_graph.proofs.Measured.{entered, short}
+use Rattle.flow_graph.proofs.planning.plan.Goals as goal
+
+pub edges_of-requires : goal.edges_of-requires
+edges_of-requires c =
+    let p = c.args.program in
+    let s = short p (entered p c.requires.formed.entry) c.in_ok-copies.ensures.fewer in
+    let l = ap length (c.as_slice-2.ensures ∙ c.in_ok-spots.ensures) in
+    omega (arith, s, l)
+
+pub loops_of-requires-clause-few : goal.loops_of-requires-clause-few
+loops_of-requires-clause-few c =
+    let p = c.args.program in
+    let l = ap length (c.as_slice-4.ensures ∙ c.in_ok-edges.ensures ∙ ap (spot_edges 0) (c.as_slice-2.ensures ∙ c.in_ok-spots.ensures) ∙ sym (edges_are (graph p))) in
+    omega (arith, l, c.in_ok-copies.ensures.fewer)
+
+pub of_graph-requires : goal.of_graph-requires
+of_graph-requires c =
+    let p = c.args.program in
+    let s = c.in_ok-spots.ensures in
+    let e = c.in_ok-edges.ensures ∙ ap (spot_edges 0) (c.as_slice-2.ensures ∙ s) ∙ sym (edges_are (graph p)) in
+    let edges_is = c.as_slice-4.ensures ∙ e in
+    let spots_is = c.as_slice-3.ensures ∙ s in
+    record {
+      formed = c.requires.formed;
+      costed = c.requires.costed;
+      allowed = c.in_ok-check_caps.ensures.whole;
+      nodes_are = s;
+      edges_are = e;
+      loops_are = c.in_ok-loops.ensures ∙ (λ i. spot_loops (edges_is i) 0 (spots_is i)) ∙ sym (loops_are (graph p) (graph_turned p));
+      copies_are = c.in_ok-copies.ensures.copies;
+    }

@@ -1,0 +1,154 @@
+//! Plans.
+
+ghost use Rattle.std.specs.Prelude.{◌≡◌, ◌<◌, ◌≤◌, None, Some, ◌&&◌, nat_lt, length, slice_get};
+ghost use Rattle.std.specs.List.{list_all};
+ghost use Rattle.c_tree.specs.Claims.{AreCostsOf};
+ghost use Rattle.c_tree.specs.WellFormed.{WellFormed};
+ghost use Rattle.flow_laws.specs.Graphs.{graph, nodes, edges, loops};
+ghost use Rattle.flow_laws.specs.Paths.{edge_cost, follows, keeps_each};
+ghost use Rattle.flow_graph.specs.Limits.{block_copies};
+ghost use Rattle.flow_graph.specs.Plans.{IsPlan, planned, keeps_all};
+
+use crate::lists::{edge_cost, follows, keeps_each, names_edges};
+use crate::spot::Spot;
+use c_tree::{Costs, Program};
+use flow_laws::{Edge, Loop, Node};
+use sqlite_items::Items;
+use std::marker::Model;
+
+/// A well-formed program with its costs and the flat graph of its entry function, calls inlined. Contracts see the program
+/// and its costs: nodes, edges and loop copies are those of the program's graph, so its laws hold of every plan. The graph
+/// has at most 1,024 block copies and 2,048 edges, and no cap of it is above 2^40.
+#[derive(Drop)]
+pub struct Plan {
+    program: Program,
+    costs: Costs,
+    spots: Items<Spot>,
+    edges: Items<Edge>,
+    loops: Items<Loop>,
+    copies: u32,
+}
+
+impl Model for Plan {
+    ghost use Rattle.flow_graph.specs.Plans.{Planned, IsPlan, planned};
+    ghost use Rattle.c_tree.specs.contracts.tree.Stmt as stmt;
+    ghost use Rattle.c_tree.specs.contracts.tree.Expr as expr;
+    ghost use Rattle.std.specs.Coded.{codes};
+
+    ghost Value = { Planned };
+
+    ghost coded = { Prim.hlevel (codes, stmt.the_row.coded, expr.the_row.coded) };
+
+    ghost view = { λ p. planned p.program p.costs };
+
+    ghost invariant = { λ p. IsPlan p.program p.costs p.spots p.edges p.loops p.copies };
+}
+
+impl Plan {
+    /// The plan of this program and these costs, whose graph this is.
+    pub(crate) fn of_graph(
+        program: Program,
+        costs: Costs,
+        spots: Items<Spot>,
+        edges: Items<Edge>,
+        loops: Items<Loop>,
+        copies: u32,
+    ) -> Plan
+        requires { IsPlan program costs spots edges loops copies }
+        ensures { result ≡ planned program costs }
+    {
+        Plan {
+            program,
+            costs,
+            spots,
+            edges,
+            loops,
+            copies,
+        }
+    }
+
+    /// The program. It is well-formed.
+    pub fn program(&self) -> &Program
+        ensures value { result.now ≡ self.now.program }
+        ensures formed { WellFormed self.now.program }
+    {
+        &self.program
+    }
+
+    /// The costs, which are of this program.
+    pub fn costs(&self) -> &Costs
+        ensures value { result.now ≡ self.now.costs }
+        ensures costed { AreCostsOf self.now.program self.now.costs }
+    {
+        &self.costs
+    }
+
+    /// How many nodes there are, Entry and Exit among them.
+    pub fn nodes(&self) -> u32
+        ensures { result ≡ length (graph self.now.program) }
+    {
+        self.spots.len() as u32
+    }
+
+    /// How many edges there are, at most 2,048.
+    pub fn edges(&self) -> u32
+        ensures count { result ≡ length (edges (graph self.now.program)) }
+        ensures few { result ≤ 2048 }
+    {
+        self.edges.len() as u32
+    }
+
+    /// How many nodes are block copies, at most 1,024.
+    pub fn copies(&self) -> u32
+        ensures count { result ≡ block_copies (graph self.now.program) }
+        ensures few { result ≤ 1024 }
+    {
+        self.copies
+    }
+
+    /// The edge number `e`.
+    pub fn edge(&self, e: u16) -> &Edge
+        requires { e < length (edges (graph self.now.program)) }
+        ensures { slice_get (edges (graph self.now.program)) e ≡ Some result.now }
+    {
+        &self.edges.as_slice()[e as usize]
+    }
+
+    /// The cost of the block of the edge's source, and 0 for Entry and landings.
+    pub fn cost(&self, e: u16) -> u64
+        requires { e < length (edges (graph self.now.program)) }
+        ensures { result ≡ edge_cost self.now.costs (graph self.now.program) e }
+    {
+        edge_cost(&self.costs, self.edges.as_slice(), self.spots.as_slice(), e)
+    }
+
+    /// The node number `n`.
+    pub fn node(&self, n: u32) -> &Node
+        requires { n < length (graph self.now.program) }
+        ensures { slice_get (nodes (graph self.now.program)) n ≡ Some result.now }
+    {
+        &self.spots.as_slice()[n as usize].node
+    }
+
+    /// The loop copies, by their conditions' nodes.
+    pub fn loops(&self) -> &[Loop]
+        ensures { result.now ≡ loops (graph self.now.program) }
+    {
+        self.loops.as_slice()
+    }
+
+    /// Whether the list names only edges and is contiguous from Entry.
+    pub fn follows(&self, list: &[u16]) -> bool
+        ensures { result ≡ follows (edges (graph self.now.program)) list.now }
+    {
+        follows(self.edges.as_slice(), list)
+    }
+
+    /// Whether the list names only edges and keeps every loop's bound: after each edge that enters a loop copy from outside,
+    /// up to the next one, it has the `True` of the loop's condition at most as often as its bound says; of `do`, once less.
+    pub fn keeps(&self, list: &[u16]) -> bool
+        ensures { result ≡ keeps_all (graph self.now.program) list.now }
+    {
+        names_edges(self.edges.len(), list) && keeps_each(self.loops.as_slice(), list)
+    }
+}

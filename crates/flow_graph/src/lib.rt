@@ -1,0 +1,22 @@
+//! The flat graph of a program, calls inlined, as a plan that owns the program and its costs.
+#![tactic(auto)]
+
+mod amounts;
+mod fault;
+mod graph;
+mod joints;
+mod law;
+mod layout;
+mod lists;
+mod planning;
+mod spot;
+mod unfold;
+
+pub use fault::PlanFault;
+pub use flow_laws::{Edge, Loop, Node, Way};
+pub use graph::Plan;
+pub use law::worked_limits;
+pub use planning::plan;
+
+#[cfg(test)]
+mod tests;

@@ -1,0 +1,117 @@
+//! Lists of edges: whether they follow one another, whether they keep the bounds of loops, and what they cost.
+
+ghost use Rattle.std.specs.Prelude.{◌≡◌, ◌&&◌, nat_lt, slice_get};
+ghost use Rattle.std.specs.List.{list_all};
+ghost use Rattle.c_tree.specs.Claims.{block_cost};
+ghost use Rattle.flow_laws.specs.Paths.{follows, is_among, keeps, keeps_each, most_turns};
+ghost use Rattle.flow_graph.specs.Plans.{cost_of_source};
+
+use crate::spot::Spot;
+use c_tree::{BlockName, Costs};
+use flow_laws::{Edge, Loop};
+
+pub(crate) fn follows(edges: &[Edge], list: &[u16]) -> bool
+    ensures { result ≡ follows edges.now list.now }
+{
+    let mut at = 0;
+    for number in list {
+        let Some(edge) = edge_at(edges, *number) else {
+            return false;
+        };
+        if edge.from != at {
+            return false;
+        }
+        at = edge.to;
+    }
+    true
+}
+
+fn edge_at(edges: &[Edge], number: u16) -> Option<Edge>
+    ensures { result ≡ slice_get edges.now number }
+{
+    edges.get(number as usize).copied()
+}
+
+/// Whether each number of the list is below `edges`.
+pub(crate) fn names_edges(edges: usize, list: &[u16]) -> bool
+    ensures { result ≡ list_all (λ j. nat_lt j edges) list.now }
+{
+    list.iter().all(|number| (*number as usize) < edges)
+}
+
+pub(crate) fn keeps_each(loops: &[Loop], list: &[u16]) -> bool
+    ensures { result ≡ keeps_each loops.now list.now }
+{
+    for l in loops {
+        if !keeps(l, list) {
+            return false;
+        }
+    }
+    true
+}
+
+// `left` has the turns that are left of a loop, once it was entered.
+fn keeps(l: &Loop, list: &[u16]) -> bool
+    ensures { result ≡ keeps l.now list.now }
+{
+    let mut left: Option<u32> = None;
+    for number in list {
+        if is_among(*number, l.into.as_slice()) {
+            left = Some(most_turns(l));
+        } else if *number == l.turn {
+            match left {
+                None => {}
+                Some(0) => return false,
+                Some(turns) => left = Some(turns - 1),
+            }
+        }
+    }
+    true
+}
+
+fn most_turns(l: &Loop) -> u32
+    ensures { result ≡ most_turns l.now }
+{
+    if l.at_end {
+        l.bound.saturating_sub(1)
+    } else {
+        l.bound
+    }
+}
+
+fn is_among(number: u16, numbers: &[u16]) -> bool
+    ensures { result ≡ is_among number numbers.now }
+{
+    for other in numbers {
+        if number == *other {
+            return true;
+        }
+    }
+    false
+}
+
+/// The cost of the block of an edge's source.
+pub(crate) fn edge_cost(costs: &Costs, edges: &[Edge], spots: &[Spot], number: u16) -> u64
+    ensures { result ≡ cost_of_source costs.now spots.now (slice_get edges.now number) }
+{
+    let Some(edge) = edge_at(edges, number) else {
+        return 0;
+    };
+    let Some(spot) = spots.get(edge.from as usize) else {
+        return 0;
+    };
+    match spot.node.block {
+        None => 0,
+        Some(block) => block_cost(costs, block),
+    }
+}
+
+fn block_cost(costs: &Costs, block: BlockName) -> u64
+    ensures { result ≡ block_cost costs.now block }
+{
+    let Some(row) = costs.by_func.get(block.func as usize) else {
+        return 0;
+    };
+    let cost = row.as_slice().get(block.number as usize).copied();
+    u64::from(cost.unwrap_or(0))
+}

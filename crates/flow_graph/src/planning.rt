@@ -1,0 +1,107 @@
+//! Planning.
+
+ghost use Rattle.std.specs.Prelude.{◌≡◌, ◌≢◌, ◌<◌, ◌≤◌, None, Some, [], length, slice_get, IfOk, IfErr, OnOk};
+ghost use Rattle.c_tree.specs.Claims.{AreCostsOf};
+ghost use Rattle.c_tree.specs.WellFormed.{WellFormed};
+ghost use Rattle.flow_laws.specs.Graphs.{graph, edges};
+ghost use Rattle.flow_graph.specs.Amounts.{amounts};
+ghost use Rattle.flow_graph.specs.Spots.{spots};
+ghost use Rattle.flow_graph.specs.Limits.{refusal, block_copies};
+ghost use Rattle.flow_graph.specs.Plans.{planned};
+ghost use Rattle.flow_graph.specs.declared.fault.PlanFault.TheVariants as PlanFault;
+
+use crate::amounts::{Weights, amounts};
+use crate::fault::PlanFault;
+use crate::graph::Plan;
+use crate::joints::{edges_of, first_above, loops_of};
+use crate::layout::EACH;
+use crate::spot::Spot;
+use crate::unfold::lay_out;
+use c_tree::{Costs, NoMemory, Program};
+use sqlite_items::Items;
+use std::alloc::Global;
+
+const COPIES: Weights = Weights {
+    test: 1,
+    landing: 0,
+};
+
+const EDGES: Weights = Weights {
+    test: 2,
+    landing: 1,
+};
+
+/// The plan of a program with its costs: the flat graph of its entry function, calls inlined.
+///
+/// # Errors
+///
+/// The first that holds, in the order of `PlanFault`; `NoMemory` may stand before any other. Sizes are measured before
+/// anything is built, in time linear in the program.
+pub fn plan(alloc: Global, program: Program, costs: Costs) -> Result<Plan, PlanFault>
+    requires formed { WellFormed program }
+    requires costed { AreCostsOf program costs }
+    ensures plan { IfOk result (λ p. p ≡ planned program costs) }
+    ensures whole { OnOk result (refusal (graph program) ≡ None) }
+    ensures refused { IfErr result (λ e. e ≢ PlanFault.NoMemory → refusal (graph program) ≡ Some e) }
+{
+    let copies = check_size(alloc, &program)?;
+    let spots = spots_of(alloc, &program)?;
+    check_caps(&program, spots.as_slice())?;
+    let edges = edges_of(alloc, spots.as_slice())?;
+    let loops = loops_of(alloc, spots.as_slice(), edges.as_slice())?;
+    Ok(Plan::of_graph(program, costs, spots, edges, loops, copies))
+}
+
+// How many block copies there are, where they and the edges are not too many.
+fn check_size(alloc: Global, program: &Program) -> Result<u32, PlanFault>
+    requires { WellFormed program.now }
+    ensures copies { IfOk result (λ n. n ≡ block_copies (graph program.now)) }
+    ensures few { OnOk result (block_copies (graph program.now) ≤ 1024) }
+    ensures fewer { OnOk result (length (edges (graph program.now)) ≤ 2048) }
+    ensures refused { IfErr result (λ e. e ≢ PlanFault.NoMemory → refusal (graph program.now) ≡ Some e) }
+{
+    let copies = counted(alloc, program, COPIES)?;
+    if copies > 1024 {
+        return Err(PlanFault::Blocks);
+    }
+    // Entry's edge is one more.
+    let edges = counted(alloc, program, EDGES)?;
+    if edges > 2047 {
+        return Err(PlanFault::Edges);
+    }
+    Ok(copies as u32)
+}
+
+// That no cap of a block copy is above the limit.
+fn check_caps(program: &Program, laid: &[Spot]) -> Result<(), PlanFault>
+    requires nodes { laid.now ≡ spots (graph program.now) }
+    requires few { block_copies (graph program.now) ≤ 1024 }
+    requires fewer { length (edges (graph program.now)) ≤ 2048 }
+    ensures whole { OnOk result (refusal (graph program.now) ≡ None) }
+    ensures refused { IfErr result (λ e. refusal (graph program.now) ≡ Some e) }
+{
+    match first_above(laid) {
+        None => Ok(()),
+        Some(block) => Err(PlanFault::Cap { block }),
+    }
+}
+
+// The amount of the entry function.
+fn counted(alloc: Global, program: &Program, weights: Weights) -> Result<u64, NoMemory>
+    requires { WellFormed program.now }
+    ensures { IfOk result (λ n. slice_get (amounts weights [] program.now.funcs) program.now.entry ≡ Some n) }
+{
+    let sums = amounts(alloc, program.funcs.as_slice(), weights)?;
+    Ok(sums.as_slice()[program.entry as usize])
+}
+
+// All nodes, of which there are not too many.
+fn spots_of(alloc: Global, program: &Program) -> Result<Items<Spot>, NoMemory>
+    requires formed { WellFormed program.now }
+    requires few { length (edges (graph program.now)) ≤ 2048 }
+    ensures { IfOk result (λ s. s ≡ spots (graph program.now)) }
+{
+    let funcs = program.funcs.as_slice();
+    let sizes = amounts(alloc, funcs, EACH)?;
+    lay_out(alloc, funcs, sizes.as_slice(), program.entry)
+}

@@ -1,0 +1,60 @@
+-- What is written for a file whose program is accepted.
+use Rattle.std.specs.Prelude.{◌≡◌, ℕ, ◌+◌, false, IsTrue, List, [], ◌∷◌, ◌++◌, codes, decimal}
+use Rattle.c_tree.specs.declared.program.Func.{Func}
+use Rattle.c_tree.specs.declared.program.Program.{Program}
+use Rattle.c_tree.specs.declared.program.Costs.{Costs}
+use Rattle.c_tree.specs.declared.program.Input.{Input}
+use Rattle.c_tree.specs.Runs.{fits, run}
+use Rattle.c_tree.specs.Claims.{Above}
+use Rattle.tree_bound.specs.Loops.{has_loop}
+use Rattle.tree_bound.specs.Dear.{bound_of}
+use Rattle.c_run.specs.declared.run_end.RunEnd.{RunEnd}
+use Rattle.c_run.specs.declared.run_end.RunEnd.TheVariants.{Ends, Undefined, OverBound}
+use Rattle.c_run.specs.Ends.{ended}
+use Rattle.c_run.specs.InputTexts.{input_text}
+use Rattle.c_print.specs.Printed.{printed}
+use Rattle.squeeze_top.specs.declared.words.Mode.{Mode}
+use Rattle.squeeze_top.specs.declared.words.Mode.TheVariants.{Bound, Blocks, Run, Print}
+
+abbrev pub bound_line : ℕ → List ℕ
+bound_line n = codes "bound " ++ decimal n ++ codes "\n"
+
+-- a block's name, which is its function's name, a colon and its number; a blank; and its cost
+abbrev pub block_line : List ℕ → ℕ → ℕ → List ℕ
+block_line function number cost =
+    function ++ codes ":" ++ decimal number ++ codes " " ++ decimal cost ++ codes "\n"
+
+-- those of a function's blocks with these costs, from this number on
+abbrev pub func_lines : List ℕ → ℕ → List ℕ → List ℕ
+func_lines function number [] = []
+func_lines function number (cost ∷ row) = block_line function number cost ++ func_lines function (number + 1) row
+
+-- those of all blocks, by the functions of the text and then by number
+abbrev pub block_lines : List Func → List (List ℕ) → List ℕ
+block_lines [] rows = []
+block_lines (f ∷ fs) [] = []
+block_lines (f ∷ fs) (row ∷ rows) = func_lines f.name 0 row ++ block_lines fs rows
+
+-- the program has no loop, and the text is the line of its bound, which no run exceeds
+pub record TellsBound (p : Program) (t : Costs) (text : List ℕ) : Type 0 where
+  pub loops : has_loop p ≡ false
+  pub line : text ≡ bound_line (bound_of p t)
+  pub above : Above p t (bound_of p t)
+
+abbrev pub run_line : RunEnd → List ℕ
+run_line (Ends cost) = codes "ends " ++ decimal cost ++ codes "\n"
+run_line Undefined = codes "undefined\n"
+run_line OverBound = codes "overbound\n"
+
+-- an input that fits has this text, and the line tells how its run ends
+pub record TellsRun (p : Program) (t : Costs) (input text : List ℕ) : Type 0 where
+  pub values : Input
+  pub fitting : IsTrue (fits p values)
+  pub spelled : input_text p values ≡ input
+  pub line : text ≡ run_line (ended t (run p values))
+
+abbrev pub IsAnswer : Mode → Program → Costs → List ℕ → List ℕ → Type 0
+IsAnswer Bound p t input text = TellsBound p t text
+IsAnswer Blocks p t input text = text ≡ block_lines p.funcs t.by_func
+IsAnswer Run p t input text = TellsRun p t input text
+IsAnswer Print p t input text = text ≡ printed p
