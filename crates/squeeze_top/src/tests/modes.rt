@@ -86,6 +86,16 @@ fn bounds_and_blocks_with_tables(rt: HostRuntime) -> Result<(), Fail> {
             0,
             "main:0 2\nmain:1 2\nmain:2 2\n",
         ),
+    ] {
+        let words = [mode, "f.c", "--costs", "t.toml"];
+        judged(&rt, &words, program, table, code, text)?;
+    }
+    Ok(())
+}
+
+#[test]
+fn faults_of_tables(rt: HostRuntime) -> Result<(), Fail> {
+    for (mode, program, table, code, text) in [
         (
             "blocks",
             TWO_THRESHOLDS,
