@@ -89,7 +89,7 @@ next_of (x ∷ xs) (y ∷ ys) rest number more each same =
     with_first first (inr found) = inr (record { tail = found.tail; is = ap (λ z. z ∷ ys) first ∙ ap (λ zs. x ∷ zs) found.is })
 
 -- a literal of a clause is new to those before it
-new_in : (variables : ℕ) (literals tail : List ℤ) (number : ℤ) → IsClause (literals ++ number ∷ tail) → NamesUpTo variables (literals ++ number ∷ tail) → IsNew variables literals number
+pub new_in : (variables : ℕ) (literals tail : List ℤ) (number : ℤ) → IsClause (literals ++ number ∷ tail) → NamesUpTo variables (literals ++ number ∷ tail) → IsNew variables literals number
 new_in variables literals tail number clause up_to = record {
   literal = subst IsLiteral (here number) (clause.each (length literals) number within);
   up_to = subst (λ (l : ℤ). unsigned_abs l ≤ variables) (here number) (up_to (length literals) number within);

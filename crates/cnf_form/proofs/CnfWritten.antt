@@ -38,7 +38,7 @@ words-clauses (c ∷ cs) each =
     ∙ ap (λ ws. map signed_decimal c ++ (48 ∷ []) ∷ ws) (words-clauses cs (All-tail IsClause c cs each))
     ∙ sym (numbers-more c (numbers_of cs))
 
-visible-literals : (literals : List ℤ) → All IsLiteral literals → AllVisible (literals_text literals)
+pub visible-literals : (literals : List ℤ) → All IsLiteral literals → AllVisible (literals_text literals)
 visible-literals [] each = tt
 visible-literals (l ∷ ls) each =
     let first = IsNumeric-signed l (All-head IsLiteral l ls each).1 in

@@ -82,7 +82,7 @@ some_row v small = decimal_by_steps (λ n _. 0 < n → (k : ℕ) × (1 * 10 ^ k 
 
 -- ---- the front of a number
 
-pub number_front : (bytes more : List ℕ) (n : ℕ) → 0 < length bytes → n ≤ most → bytes ++ more ≡ decimal n → (m : ℕ) × (m ≤ n) × (bytes ≡ decimal m)
+pub number_front : (bytes more : List ℕ) (n : ℕ) → 0 < length bytes → n ≤ 2 ^ 32 → bytes ++ more ≡ decimal n → (m : ℕ) × (m ≤ n) × (bytes ≡ decimal m)
 number_front bytes more n some small same =
     let all = subst (AllDigits 10) (sym same) (digits_decimal own n (omega arith)) in
     let digits = AllDigits-left bytes more all in
@@ -217,7 +217,7 @@ stray variables count clauses literals word some no_sign none grows = by_number 
         behind bs n small (is ∙ ap (λ c. c ∷ bs) first) rest
 
     by_number : (number : ℤ) → unsigned_abs number ≤ most → word ++ grows.more ≡ signed_decimal number → ⊥
-    by_number (pos n) small written = let front = number_front word grows.more n some small written in none (pos front.0) (omega (arith, front.1)) front.2
+    by_number (pos n) small written = let front = number_front word grows.more n some (omega (arith, small)) written in none (pos front.0) (omega (arith, front.1)) front.2
     by_number (negsuc n) small written = by_word word n (omega arith) refl some written
 
 pub some_abs : (z : ℤ) → z ≢ pos 0 → 0 < unsigned_abs z

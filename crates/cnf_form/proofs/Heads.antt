@@ -45,7 +45,7 @@ no_head line rest now word after up cut none = record {
 -- no number there
 pub no_number_at : (word ending : List ℕ) (n limit : ℕ) → limit ≡ most → 0 < length word → n ≤ most → ((m : ℕ) → m ≤ limit → word ≢ decimal m) → word ++ ending ≡ decimal n → ⊥
 no_number_at word ending n limit top some small none same =
-    let front = number_front word ending n some small same in
+    let front = number_front word ending n some (omega (arith, small)) same in
     none front.0 (omega (arith, front.1)) front.2
 
 pub only_p : (word ending : List ℕ) → 0 < length word → word ++ ending ≡ 112 ∷ [] → word ≡ 112 ∷ []

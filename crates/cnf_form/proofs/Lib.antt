@@ -13,3 +13,7 @@ pub mod Heads
 pub mod Leaving
 pub mod FormulaTexts
 pub mod Placing
+pub mod Tokens
+pub mod LogLines
+pub mod LogTexts
+pub mod LogHeads

@@ -33,7 +33,7 @@ IsNumeric-signed (negsuc n) small =
     let number = IsNumeric-decimal (suc n) (omega arith) in
     record { some = omega arith; each = (omega arith, omega arith, number.each) }
 
-not_gap : (b : ℕ) → 45 ≤ b → is_gap b ≡ false
+pub not_gap : (b : ℕ) → 45 ≤ b → is_gap b ≡ false
 not_gap b h = grind (arith, nat_tests)
 
 -- a word ends at a gap

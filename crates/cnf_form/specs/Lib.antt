@@ -9,3 +9,4 @@ pub mod Passing
 pub mod Reading
 pub mod Places
 pub mod Faults
+pub mod LogReading

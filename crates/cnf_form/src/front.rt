@@ -116,13 +116,16 @@ impl Front {
         Ok(())
     }
 
-    fn push_literal(&mut self, literal: i32) -> Result<(), AllocError>
+    /// Goes on with this literal.
+    pub(crate) fn push_literal(&mut self, literal: i32) -> Result<(), AllocError>
         requires keeps { Keeps self.old }
         requires room { length self.old.clauses.items < self.old.count }
         requires new { IsNew self.old.variables self.old.literals.items literal }
         ensures keeps { OnOk result (Keeps self.new) }
         ensures variables { OnOk result (self.new.variables ≡ self.old.variables) }
         ensures count { OnOk result (self.new.count ≡ self.old.count) }
+        ensures clauses { OnOk result (self.new.clauses.items ≡ self.old.clauses.items) }
+        ensures literals { OnOk result (self.new.literals.items ≡ self.old.literals.items ++ literal ∷ []) }
         ensures words { OnOk result (front_words self.new.clauses.items self.new.literals.items
             ≡ front_words self.old.clauses.items self.old.literals.items ++ signed_decimal literal ∷ []) }
     {

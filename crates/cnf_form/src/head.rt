@@ -113,8 +113,8 @@ fn missing(line: &[u8]) -> Head
     }
 }
 
-// Whether these are the bytes of that word.
-fn is_word(bytes: &[u8], word: &[u8]) -> bool
+/// Whether these are the bytes of that word.
+pub(crate) fn is_word(bytes: &[u8], word: &[u8]) -> bool
     ensures { IsTrue result ↔ (bytes.now ≡ word.now) }
 {
     bytes == word

@@ -16,7 +16,11 @@ mod head;
 mod law;
 mod line;
 mod log;
+mod log_head;
+mod log_line;
+mod log_text;
 mod number;
+mod token;
 mod word;
 mod write;
 
@@ -25,8 +29,9 @@ pub use clause::Clause;
 pub use cnf::Cnf;
 pub use form_fault::FormFault;
 pub use formula::read_cnf;
-pub use law::{one_formula, read_again};
+pub use law::{one_formula, one_log, read_again, read_log_again};
 pub use log::{Log, LogLine};
+pub use log_text::read_log;
 pub use write::{write_cnf, write_log};
 
 #[cfg(test)]

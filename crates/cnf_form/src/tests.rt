@@ -188,3 +188,106 @@ fn other_texts_leave_the_form_of_a_formula(rt: HostRuntime) -> Result<(), Fail> 
     }
     Ok(())
 }
+
+// The log that a text says, written anew, or the line of its fault.
+fn log_outcome(alloc: Global, text: &[u8]) -> Result<Result<Vec<u8>, u32>, NoMemory> {
+    if text.len() > 1000 {
+        return Ok(Err(u32::MAX));
+    }
+    match read_log(alloc, text) {
+        Ok(log) => Ok(Ok(write_log(alloc, &log)?)),
+        Err(FormFault::NotForm { line }) => Ok(Err(line)),
+        Err(FormFault::NoMemory) => Err(NoMemory),
+    }
+}
+
+#[test]
+fn the_log_of_the_square_is_read(rt: HostRuntime) -> Result<(), Fail> {
+    let alloc = rt.alloc();
+    let log = read_log(alloc, b"p log 2\n1 0 1 2 0\n0 5 3 4 0\n".as_slice()).map_err(
+        |_| "refused",
+    )?;
+    let [first, last] = log.lines() else {
+        return Err("not two lines".into());
+    };
+    assert_eq!(rt; first.clause.literals(), [1].as_slice());
+    assert_eq!(rt; first.hints(), [0, 1].as_slice());
+    assert!(rt; last.clause.literals().is_empty());
+    assert_eq!(rt; last.hints(), [4, 2, 3].as_slice());
+    Ok(())
+}
+
+#[test]
+fn texts_of_logs_are_read(rt: HostRuntime) -> Result<(), Fail> {
+    let alloc = rt.alloc();
+    for text in [
+        "p log 0\n",
+        "p log 1\n0 0\n",
+        "p log 1\n1 -2 0 0\n",
+        "p log 2\n1 0 1 2 0\n0 5 3 4 0\n",
+        "p log 1\n-2147483647 2147483646 0 4294967296 1 0\n",
+    ] {
+        let read = log_outcome(alloc, text.as_bytes())?.map_err(|_| "refused")?;
+        assert_eq!(rt; read.as_slice(), text.as_bytes(), "{text:?}");
+    }
+    Ok(())
+}
+
+#[test]
+fn other_texts_leave_the_form_of_a_log(rt: HostRuntime) -> Result<(), Fail> {
+    let alloc = rt.alloc();
+    for (text, line) in [
+        // heads
+        ("", 0),
+        ("\n", 0),
+        ("p lo", 1),
+        ("p log ", 1),
+        ("p log \n", 0),
+        ("p log 0", 1),
+        ("p log 2147483647", 1),
+        ("p log 2147483648", 0),
+        ("p log 01\n", 0),
+        ("p log  1\n", 0),
+        ("p log 1 \n", 0),
+        ("p cnf 1 1\n", 0),
+        // numbers of lines
+        ("p log 1\n", 1),
+        ("p log 0\n0 0\n", 1),
+        ("p log 0\n\n", 1),
+        ("p log 2\n0 0\n", 2),
+        ("p log 1\n0 0\nx", 2),
+        // lines
+        ("p log 1\n0\n", 1),
+        ("p log 1\n0  0\n", 1),
+        ("p log 1\n 0 0\n", 1),
+        ("p log 1\n0 0 \n", 1),
+        ("p log 1\n0\t0\n", 1),
+        ("p log 1\n0 0 0\n", 1),
+        ("p log 1\n1 -1 0 0\n", 1),
+        ("p log 1\n-0 0\n", 1),
+        ("p log 1\n01 0 0\n", 1),
+        ("p log 1\n2147483648 0 0\n", 1),
+        ("p log 1\n0 4294967297 0\n", 1),
+        ("p log 1\n0 -1 0\n", 1),
+        ("p log 1\n0 01 0\n", 1),
+        // an unfinished last line
+        ("p log 1\n-", 2),
+        ("p log 1\n1", 2),
+        ("p log 1\n1 ", 2),
+        ("p log 1\n1 1", 2),
+        ("p log 1\n214748364 214748364", 2),
+        ("p log 1\n2147483647 2147483647", 1),
+        ("p log 1\n1 00", 1),
+        ("p log 1\n0 4294967296", 2),
+        ("p log 1\n0 4294967297", 1),
+        ("p log 1\n0 0", 2),
+        ("p log 2\n0 0\n0 0", 3),
+    ] {
+        assert_eq!(rt;
+            log_outcome(alloc, text.as_bytes())?.err(),
+            Some(line),
+            "{text:?}"
+        );
+    }
+    Ok(())
+}

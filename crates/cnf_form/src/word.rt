@@ -31,8 +31,8 @@ fn gap_len(text: &[u8]) -> usize
     text.len()
 }
 
-// How many bytes stand before the first gap.
-fn word_len(text: &[u8]) -> usize
+/// How many bytes stand before the first gap.
+pub(crate) fn word_len(text: &[u8]) -> usize
     ensures within { result ≤ length text.now }
     ensures before { IsSolid (take result text.now) }
     ensures end { result < length text.now → forms.is_gap (slice_index text.now result) ≡ true }
