@@ -1,5 +1,5 @@
 -- The words and the files have one answer, or refusals of one status.
-use Rattle.std.proofs.Common.{◌≡◌, ℕ, ◌≤◌, true, false, IsTrue, List, [], length, Option, Some, None, Ok, Err, refl, sym, ◌∙◌, ap, subst, arith}
+use Rattle.std.proofs.Common.{◌≡◌, ℕ, ◌≤◌, IsTrue, List, [], length, Option, Some, None, Ok, Err, refl, sym, ◌∙◌, ap, subst, arith}
 use Rattle.std.specs.Prelude.{IsSome, IsSomeAnd}
 use Rattle.std.specs.List.{Contains}
 use Rattle.wc_outside.specs.Contents.{Files, OnFile}
@@ -15,14 +15,13 @@ use Rattle.c_tree.specs.Refusals as checking
 use Rattle.c_tree.specs.Refusals.{Typed, faults}
 use Rattle.c_check.specs.Answers.{told}
 use Rattle.cost_table.specs.Tables.{verdict}
-use Rattle.tree_bound.specs.Loops.{has_loop}
 use Rattle.flow_laws.specs.Graphs.{graph}
 use Rattle.flow_graph.specs.Limits.{refusal as plan_refusal}
 use Rattle.squeeze_top.specs.declared.words.Mode.{Mode}
 use Rattle.squeeze_top.specs.declared.words.Mode.TheVariants as mode
 use Rattle.squeeze_top.specs.declared.words.Mode.TheVariants.{Bound, Run}
 use Rattle.squeeze_top.specs.declared.refusal.Refusal.{Refusal}
-use Rattle.squeeze_top.specs.declared.refusal.Refusal.TheVariants.{Words, Size, Tokens, Parse, Check, Input, TableSize, Table, Blocks, Edges, Cap, Later}
+use Rattle.squeeze_top.specs.declared.refusal.Refusal.TheVariants.{Words, Size, Tokens, Parse, Check, Input, TableSize, Table, Blocks, Edges, Cap}
 use Rattle.squeeze_top.specs.declared.status.Status.TheVariants as status
 use Rattle.squeeze_top.specs.Words.{Request}
 use Rattle.squeeze_top.specs.Accepted.{IsRead, IsAccepted, RefusesText}
@@ -79,7 +78,6 @@ no_text one (Table fault) text entry p h accepted = h
 no_text one Blocks text entry p h accepted = h
 no_text one Edges text entry p h accepted = h
 no_text one (Cap block) text entry p h accepted = h
-no_text one Later text entry p h accepted = h
 
 same_program : OneUnit → (r : Request) (told : Option Files) (a b : Program) → IsSome told → HasProgram r told a → HasProgram r told b → a ≡ b
 same_program one r told a b some p q =
@@ -157,19 +155,6 @@ long_text r told some h p accepted =
     let on = both told r.file _ _ some h accepted in
     absurd (omega (arith, on.1, on.2.short))
 
-looping : (m : Mode) (p : Program) (t : Costs) (input : List ℕ) → m ≡ Bound → has_loop p ≡ true → (text : List ℕ) → IsAnswer m p t input text → ⊥
-looping Bound p t input same loops text answer = let none : has_loop p ≡ false = answer.loops in absurd (cc)
-looping mode.Blocks p t input same loops text answer = absurd (cc)
-looping mode.Print p t input same loops text answer = absurd (cc)
-looping Run p t input same loops text answer = absurd (cc)
-
--- a bound needs lacks input
-bound_input : (r : Request) (p : Program) → r.mode ≡ Bound → HasInput r p
-bound_input r p mode = record { read = λ run. absurd (no_run (sym mode ∙ run)) }
-  where
-    no_run : Bound ≡ Run → ⊥
-    no_run h = absurd (cc)
-
 unread : (r : Request) (p : Program) → r.mode ≡ Run → ((i : Inputs) → IsTrue (fits p i) → input_text p i ≡ r.input → ⊥) → HasInput r p → ⊥
 unread r p mode none h =
     let read = h.read mode in
@@ -187,7 +172,6 @@ too_large (Check fault) p h planned = h
 too_large Input p h planned = h
 too_large TableSize p h planned = h
 too_large (Table fault) p h planned = h
-too_large Later p h planned = h
 
 unplanned : (refusal : Refusal) (r : Request) (told : Option Files) → status_of refusal ≡ status.Program → HasNoPlan refusal r told → Side r told refusal
 unplanned refusal r told same h = Ready same h.program h.costs h.accepted h.input h.priced (λ text planned answer. too_large refusal h.program h.refused planned)
@@ -206,8 +190,6 @@ side one (Table fault) r told some h =
 side one Blocks r told some h = unplanned Blocks r told refl h
 side one Edges r told some h = unplanned Edges r told refl h
 side one (Cap block) r told some h = unplanned (Cap block) r told refl h
-side one Later r told some h =
-    Ready refl h.program h.costs h.accepted (bound_input r h.program h.mode) h.priced (λ text planned. looping r.mode h.program h.costs r.input h.mode h.loops text)
 
 no_input : OneUnit → (r : Request) (told : Option Files) (p q : Program) → IsSome told → HasProgram r told p → HasProgram r told q → HasInput r p → (HasInput r q → ⊥) → ⊥
 no_input one r told p q some has has2 input none = none (subst (HasInput r) (same_program one r told p q some has has2) input)

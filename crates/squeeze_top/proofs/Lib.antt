@@ -3,4 +3,3 @@ pub mod Agreeing
 mod Growing
 mod BlockLines
 mod Telling
-mod Halting

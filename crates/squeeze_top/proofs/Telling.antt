@@ -3,7 +3,7 @@ use Rattle.std.proofs.Common.{◌≡◌, ℕ, ◌⊎◌, inl, inr, List, Option,
 use Rattle.std.specs.Prelude.{◌≢◌, IsSome, IsSomeAnd}
 use Rattle.wc_outside.specs.Contents.{Files}
 use Rattle.squeeze_top.specs.declared.refusal.Refusal.{Refusal}
-use Rattle.squeeze_top.specs.declared.refusal.Refusal.TheVariants.{Words, Size, Tokens, Parse, Check, Input, TableSize, Table, Blocks, Edges, Cap, Later}
+use Rattle.squeeze_top.specs.declared.refusal.Refusal.TheVariants.{Words, Size, Tokens, Parse, Check, Input, TableSize, Table, Blocks, Edges, Cap}
 use Rattle.squeeze_top.specs.declared.status.Status.{Status}
 use Rattle.squeeze_top.specs.declared.status.Status.TheVariants as status
 use Rattle.squeeze_top.specs.Words.{Request}
@@ -25,7 +25,6 @@ refuses_some (Table fault) r files h = h
 refuses_some Blocks r files h = h
 refuses_some Edges r files h = h
 refuses_some (Cap block) r files h = h
-refuses_some Later r files h = h
 
 refuses_none : (refusal : Refusal) (files : Option Files) → RefusesWords refusal None files → refusal ≡ Words
 refuses_none Words files h = refl
@@ -39,7 +38,6 @@ refuses_none (Table fault) files h = absurd h
 refuses_none Blocks files h = absurd h
 refuses_none Edges files h = absurd h
 refuses_none (Cap block) files h = absurd h
-refuses_none Later files h = absurd h
 
 -- an answer is the only one
 pub answers_agree : OneUnit → OneInput → (request : Option Request) (files : Option Files) (a b : List ℕ) → IsSome files → IsSomeAnd request (λ r. IsAnswered r files a)

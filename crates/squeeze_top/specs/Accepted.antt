@@ -16,7 +16,7 @@ use Rattle.c_parse.specs.Answers.{IsPlace}
 use Rattle.c_check.specs.declared.fault.CheckFault.{CheckFault}
 use Rattle.c_check.specs.Answers.{told}
 use Rattle.squeeze_top.specs.declared.refusal.Refusal.{Refusal}
-use Rattle.squeeze_top.specs.declared.refusal.Refusal.TheVariants.{Words, Size, Tokens, Parse, Check, Input, TableSize, Table, Blocks, Edges, Cap, Later}
+use Rattle.squeeze_top.specs.declared.refusal.Refusal.TheVariants.{Words, Size, Tokens, Parse, Check, Input, TableSize, Table, Blocks, Edges, Cap}
 
 -- the text's tokens spell the unit, which is no higher than 128
 pub record IsRead (text : List ℕ) (unit : Tree) : Type 0 where
@@ -81,4 +81,3 @@ RefusesText (Table fault) text entry = ⊥
 RefusesText Blocks text entry = ⊥
 RefusesText Edges text entry = ⊥
 RefusesText (Cap block) text entry = ⊥
-RefusesText Later text entry = ⊥

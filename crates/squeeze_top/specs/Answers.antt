@@ -1,5 +1,5 @@
 -- What is written for a file whose program is accepted.
-use Rattle.std.specs.Prelude.{◌≡◌, ℕ, ◌+◌, false, IsTrue, List, [], ◌∷◌, ◌++◌, codes, decimal}
+use Rattle.std.specs.Prelude.{◌≡◌, ℕ, ◌+◌, if◌then◌else◌, IsTrue, List, [], ◌∷◌, ◌++◌, codes, decimal}
 use Rattle.c_tree.specs.declared.program.Func.{Func}
 use Rattle.c_tree.specs.declared.program.Program.{Program}
 use Rattle.c_tree.specs.declared.program.Costs.{Costs}
@@ -8,6 +8,8 @@ use Rattle.c_tree.specs.Runs.{fits, run}
 use Rattle.c_tree.specs.Claims.{Above}
 use Rattle.tree_bound.specs.Loops.{has_loop}
 use Rattle.tree_bound.specs.Dear.{bound_of}
+use Rattle.flow_laws.specs.Graphs.{graph}
+use Rattle.ipet_rows.specs.CapsBound.{caps_bound}
 use Rattle.c_run.specs.declared.run_end.RunEnd.{RunEnd}
 use Rattle.c_run.specs.declared.run_end.RunEnd.TheVariants.{Ends, Undefined, OverBound}
 use Rattle.c_run.specs.Ends.{ended}
@@ -35,11 +37,14 @@ block_lines [] rows = []
 block_lines (f ∷ fs) [] = []
 block_lines (f ∷ fs) (row ∷ rows) = func_lines f.name 0 row ++ block_lines fs rows
 
--- the program has no loop, and the text is the line of its bound, which no run exceeds
+-- the bound by recursion over the trees, or for a program with a loop what all edges of the flat graph cost at their caps
+abbrev pub bound_number : Program → Costs → ℕ
+bound_number p t = if has_loop p then caps_bound t (graph p) else bound_of p t
+
+-- the text is the line of the bound, which no run exceeds
 pub record TellsBound (p : Program) (t : Costs) (text : List ℕ) : Type 0 where
-  pub loops : has_loop p ≡ false
-  pub line : text ≡ bound_line (bound_of p t)
-  pub above : Above p t (bound_of p t)
+  pub line : text ≡ bound_line (bound_number p t)
+  pub above : Above p t (bound_number p t)
 
 abbrev pub run_line : RunEnd → List ℕ
 run_line (Ends cost) = codes "ends " ++ decimal cost ++ codes "\n"

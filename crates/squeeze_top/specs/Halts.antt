@@ -1,5 +1,5 @@
 -- What is true where the work stops without an answer, and of the shelf's count of faults.
-use Rattle.std.specs.Prelude.{◌≡◌, ◌≢◌, ◌≤◌, ℕ, true, IsTrue, List, length, Option, IsSome, is_some, if◌then◌else◌, Result, Ok, Err}
+use Rattle.std.specs.Prelude.{◌≡◌, ◌≢◌, ◌≤◌, ℕ, IsTrue, List, length, Option, IsSome, is_some, if◌then◌else◌, Result, Ok, Err}
 use Rattle.wc_outside.specs.Contents.{Files, OnFile}
 use Rattle.c_tree.specs.declared.program.Program.{Program}
 use Rattle.c_tree.specs.declared.program.Input.{Input as Inputs}
@@ -8,7 +8,6 @@ use Rattle.c_run.specs.InputTexts.{input_text}
 use Rattle.cost_table.specs.declared.fault.CostFault.{CostFault}
 use Rattle.cost_table.specs.declared.fault.CostFault.TheVariants as cost
 use Rattle.cost_table.specs.Tables.{verdict}
-use Rattle.tree_bound.specs.Loops.{has_loop}
 use Rattle.wc_outside.specs.Causes.{Rose}
 use Rattle.c_token.specs.declared.fault.TokenFault.{TokenFault}
 use Rattle.c_token.specs.declared.fault.TokenFault.TheVariants as token
@@ -17,7 +16,7 @@ use Rattle.c_parse.specs.declared.fault.ParseFault.TheVariants as parse
 use Rattle.c_check.specs.declared.fault.CheckFault.{CheckFault}
 use Rattle.c_check.specs.Answers.{told}
 use Rattle.squeeze_top.specs.declared.refusal.Refusal.{Refusal}
-use Rattle.squeeze_top.specs.declared.refusal.Refusal.TheVariants.{Words, Size, Tokens, Parse, Check, Input, TableSize, Table, Blocks, Edges, Cap, Later}
+use Rattle.squeeze_top.specs.declared.refusal.Refusal.TheVariants.{Words, Size, Tokens, Parse, Check, Input, TableSize, Table, Blocks, Edges, Cap}
 use Rattle.squeeze_top.specs.declared.refusal.Halt.{Halt}
 use Rattle.squeeze_top.specs.declared.refusal.Halt.TheVariants.{Refused, ReadFault, NoMemory}
 use Rattle.squeeze_top.specs.Words.{Request}
@@ -72,7 +71,6 @@ RefusesTable TableSize p bytes = ⊥
 RefusesTable Blocks p bytes = ⊥
 RefusesTable Edges p bytes = ⊥
 RefusesTable (Cap block) p bytes = ⊥
-RefusesTable Later p bytes = ⊥
 
 abbrev pub IsTableHalt : Halt → Program → List ℕ → Type 0
 IsTableHalt (Refused refusal) p bytes = RefusesTable refusal p bytes
@@ -90,12 +88,6 @@ abbrev pub IsPlanHalt : Halt → Program → Type 0
 IsPlanHalt (Refused refusal) p = RefusesPlan refusal p
 IsPlanHalt ReadFault p = ⊥
 IsPlanHalt NoMemory p = Unit {0}
-
--- of the bound of this program
-abbrev pub IsBoundHalt : Halt → Program → Type 0
-IsBoundHalt (Refused refusal) p = (refusal ≡ Later) × (has_loop p ≡ true)
-IsBoundHalt ReadFault p = ⊥
-IsBoundHalt NoMemory p = Unit {0}
 
 -- of a file of this name, which is refused so where it is longer than a file may be
 abbrev pub IsFileHalt : Halt → Refusal → Option Files → List ℕ → Type 0

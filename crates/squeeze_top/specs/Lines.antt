@@ -9,7 +9,7 @@ use Rattle.c_check.specs.declared.fault.CheckFault.TheVariants as check
 use Rattle.cost_table.specs.declared.fault.CostFault.{CostFault}
 use Rattle.cost_table.specs.declared.fault.CostFault.TheVariants as cost
 use Rattle.squeeze_top.specs.declared.refusal.Refusal.{Refusal}
-use Rattle.squeeze_top.specs.declared.refusal.Refusal.TheVariants.{Words, Size, Tokens, Parse, Check, Input, TableSize, Table, Blocks, Edges, Cap, Later}
+use Rattle.squeeze_top.specs.declared.refusal.Refusal.TheVariants.{Words, Size, Tokens, Parse, Check, Input, TableSize, Table, Blocks, Edges, Cap}
 
 -- a fault of a stage by its name and its place
 abbrev pub fault_line : List ℕ → ℕ → List ℕ
@@ -75,4 +75,3 @@ line_of (Table fault) = table_line fault
 line_of Blocks = codes "program plan Blocks\n"
 line_of Edges = codes "program plan Edges\n"
 line_of (Cap block) = cap_line block
-line_of Later = codes "program later\n"

@@ -1,6 +1,6 @@
 -- When each refusal comes, in the order of work: the words; the program's size, its tokens, its unit, its names; the input of a run;
--- the size of the table, and the table; the limits of the flat graph; and last what the mode cannot do yet.
-use Rattle.std.specs.Prelude.{◌≡◌, ◌≢◌, ◌≤◌, ℕ, true, IsTrue, List, [], length, slice_get, Option, Some, None, IsSomeAnd, Err}
+-- the size of the table, and the table; and last the limits of the flat graph.
+use Rattle.std.specs.Prelude.{◌≡◌, ◌≢◌, ◌≤◌, ℕ, IsTrue, List, [], length, slice_get, Option, Some, None, IsSomeAnd, Err}
 use Rattle.wc_outside.specs.Contents.{Files, OnFile}
 use Rattle.c_tree.specs.declared.program.BlockName.{BlockName}
 use Rattle.c_tree.specs.declared.program.Func.{Func}
@@ -12,13 +12,12 @@ use Rattle.c_tree.specs.Runs.{fits}
 use Rattle.c_run.specs.InputTexts.{input_text}
 use Rattle.cost_table.specs.declared.fault.CostFault.{CostFault}
 use Rattle.cost_table.specs.Tables.{IsTable, verdict, plain, block_name}
-use Rattle.tree_bound.specs.Loops.{has_loop}
 use Rattle.flow_laws.specs.Graphs.{graph}
 use Rattle.flow_graph.specs.declared.fault.PlanFault.TheVariants as plan
 use Rattle.flow_graph.specs.Limits.{refusal as plan_refusal}
-use Rattle.squeeze_top.specs.declared.words.Mode.TheVariants.{Bound, Run}
+use Rattle.squeeze_top.specs.declared.words.Mode.TheVariants.{Run}
 use Rattle.squeeze_top.specs.declared.refusal.Refusal.{Refusal}
-use Rattle.squeeze_top.specs.declared.refusal.Refusal.TheVariants.{Words, Size, Tokens, Parse, Check, Input, TableSize, Table, Blocks, Edges, Cap, Later}
+use Rattle.squeeze_top.specs.declared.refusal.Refusal.TheVariants.{Words, Size, Tokens, Parse, Check, Input, TableSize, Table, Blocks, Edges, Cap}
 use Rattle.squeeze_top.specs.Words.{Request}
 use Rattle.squeeze_top.specs.Accepted.{IsAccepted, RefusesText}
 use Rattle.squeeze_top.specs.Answers.{IsAnswer}
@@ -95,7 +94,6 @@ RefusesPlan (Check fault) p = ⊥
 RefusesPlan Input p = ⊥
 RefusesPlan TableSize p = ⊥
 RefusesPlan (Table fault) p = ⊥
-RefusesPlan Later p = ⊥
 
 -- the program has its costs, and its flat graph is too large
 pub record HasNoPlan (refusal : Refusal) (r : Request) (told : Option Files) : Type 0 where
@@ -105,16 +103,6 @@ pub record HasNoPlan (refusal : Refusal) (r : Request) (told : Option Files) : T
   pub input : HasInput r program
   pub priced : HasCosts r told program costs
   pub refused : RefusesPlan refusal program
-
--- the bound of a program with a loop is asked for
-pub record HasLoop (r : Request) (told : Option Files) : Type 0 where
-  pub mode : r.mode ≡ Bound
-  pub program : Program
-  pub costs : Costs
-  pub accepted : HasProgram r told program
-  pub priced : HasCosts r told program costs
-  pub planned : plan_refusal (graph program) ≡ None
-  pub loops : has_loop program ≡ true
 
 -- the file's text is refused so
 abbrev pub HasBadText : Refusal → Request → Option Files → Type 0
@@ -133,7 +121,6 @@ Refuses (Table fault) r told = HasBadTable r told fault
 Refuses Blocks r told = HasNoPlan Blocks r told
 Refuses Edges r told = HasNoPlan Edges r told
 Refuses (Cap block) r told = HasNoPlan (Cap block) r told
-Refuses Later r told = HasLoop r told
 
 -- the same of the words and the files
 abbrev pub RefusesWords : Refusal → Option Request → Option Files → Type 0

@@ -3,7 +3,7 @@ use Rattle.std.specs.Prelude.{ℕ}
 use Rattle.squeeze_top.specs.declared.status.Status.{Status}
 use Rattle.squeeze_top.specs.declared.status.Status.TheVariants as status
 use Rattle.squeeze_top.specs.declared.refusal.Refusal.{Refusal}
-use Rattle.squeeze_top.specs.declared.refusal.Refusal.TheVariants.{Words, Size, Tokens, Parse, Check, Input, TableSize, Table, Blocks, Edges, Cap, Later}
+use Rattle.squeeze_top.specs.declared.refusal.Refusal.TheVariants.{Words, Size, Tokens, Parse, Check, Input, TableSize, Table, Blocks, Edges, Cap}
 
 abbrev pub code_of : Status → ℕ
 code_of status.Whole = 0
@@ -27,4 +27,3 @@ status_of (Table fault) = status.Costs
 status_of Blocks = status.Program
 status_of Edges = status.Program
 status_of (Cap block) = status.Program
-status_of Later = status.Program

@@ -10,10 +10,7 @@ use Rattle.squeeze_top.specs.declared.answer.Task.{Task}
 use Rattle.squeeze_top.specs.declared.answer.Task.TheVariants.{Bound, Blocks, Run, Print}
 use Rattle.squeeze_top.specs.declared.words.Mode.{Mode}
 use Rattle.squeeze_top.specs.declared.words.Mode.TheVariants as mode
-use Rattle.squeeze_top.specs.declared.refusal.Halt.{Halt}
-use Rattle.squeeze_top.specs.declared.refusal.Halt.TheVariants.{Refused, ReadFault, NoMemory}
 use Rattle.squeeze_top.specs.Answers.{TellsBound, block_lines, run_line}
-use Rattle.squeeze_top.specs.Halts.{IsBoundHalt}
 
 -- an input of a run fits
 abbrev pub Suits : Task → Program → Type 0
@@ -34,11 +31,3 @@ Writes Bound p t text = TellsBound p t text
 Writes Blocks p t text = text ≡ block_lines p.funcs t.by_func
 Writes Print p t text = text ≡ printed p
 Writes (Run i) p t text = text ≡ run_line (ended t (runs.run p i))
-
-abbrev pub IsTaskHalt : Halt → Task → Program → Type 0
-IsTaskHalt (Refused refusal) Bound p = IsBoundHalt (Refused refusal) p
-IsTaskHalt (Refused refusal) Blocks p = ⊥
-IsTaskHalt (Refused refusal) Print p = ⊥
-IsTaskHalt (Refused refusal) (Run i) p = ⊥
-IsTaskHalt ReadFault task p = ⊥
-IsTaskHalt NoMemory task p = Unit {0}

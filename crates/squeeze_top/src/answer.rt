@@ -4,14 +4,13 @@ ghost use Rattle.std.specs.Prelude.{◌≡◌, ◌++◌, IfOk, IfErr, OnOk};
 ghost use Rattle.c_tree.specs.Claims.{AreCostsOf};
 ghost use Rattle.c_tree.specs.WellFormed.{WellFormed};
 ghost use Rattle.squeeze_top.specs.Answers as spec;
-ghost use Rattle.squeeze_top.specs.Halts.{IsBoundHalt};
-ghost use Rattle.squeeze_top.specs.Tasks.{Suits, Writes, IsTaskHalt};
+ghost use Rattle.squeeze_top.specs.Tasks.{Suits, Writes};
 
-use crate::refusal::{Halt, Refusal};
 use c_print::print;
 use c_run::{RunEnd, run};
-use c_tree::{Costs, Func, Input, Program};
+use c_tree::{Func, Input, NoMemory};
 use flow_graph::Plan;
+use ipet_rows::caps_bound;
 use itoa::Buffer;
 use sqlite_items::Items;
 use std::alloc::{AllocError, Global};
@@ -27,15 +26,14 @@ pub(crate) enum Task {
 }
 
 /// What a task writes of a plan.
-pub(crate) fn answer_of(alloc: Global, task: &Task, plan: &Plan) -> Result<Vec<u8>, Halt>
+pub(crate) fn answer_of(alloc: Global, task: &Task, plan: &Plan) -> Result<Vec<u8>, NoMemory>
     requires fits { Suits task.now plan.now.program }
     ensures answered { IfOk result (λ text. Writes task.now plan.now.program plan.now.costs text.items) }
-    ensures halted { IfErr result (λ halt. IsTaskHalt halt task.now plan.now.program) }
 {
     let program = plan.program();
     let costs = plan.costs();
     match task {
-        Task::Bound => bound_answer(alloc, program, costs),
+        Task::Bound => bound_answer(alloc, plan),
         Task::Blocks => {
             let funcs = program.funcs.as_slice();
             Ok(block_lines(alloc, funcs, costs.by_func.as_slice())?)
@@ -48,17 +46,16 @@ pub(crate) fn answer_of(alloc: Global, task: &Task, plan: &Plan) -> Result<Vec<u
     }
 }
 
-fn bound_answer(alloc: Global, program: &Program, costs: &Costs) -> Result<Vec<u8>, Halt>
-    requires formed { WellFormed program.now }
-    requires rows { AreCostsOf program.now costs.now }
-    ensures answered { IfOk result (λ text. spec.TellsBound program.now costs.now text.items) }
-    ensures halted { IfErr result (λ halt. IsBoundHalt halt program.now) }
+fn bound_answer(alloc: Global, plan: &Plan) -> Result<Vec<u8>, NoMemory>
+    ensures { IfOk result (λ text. spec.TellsBound plan.now.program plan.now.costs text.items) }
 {
     bound_is_above();
-    if has_loop(program) {
-        return Err(Halt::Refused(Refusal::Later));
-    }
-    let bound = bound_of(alloc, program, costs)?;
+    let program = plan.program();
+    let bound = if has_loop(program) {
+        caps_bound(plan)
+    } else {
+        bound_of(alloc, program, plan.costs())?
+    };
     Ok(bound_line(alloc, bound)?)
 }
 

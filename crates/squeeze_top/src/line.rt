@@ -28,7 +28,6 @@ pub(crate) fn line_of(alloc: Global, refusal: &Refusal) -> Result<Vec<u8>, Alloc
         Refusal::Blocks => Vec::from_slice(alloc, b"program plan Blocks\n"),
         Refusal::Edges => Vec::from_slice(alloc, b"program plan Edges\n"),
         Refusal::Cap(block) => cap_line(alloc, block),
-        Refusal::Later => Vec::from_slice(alloc, b"program later\n"),
     }
 }
 

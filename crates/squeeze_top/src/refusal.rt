@@ -37,8 +37,6 @@ pub(crate) enum Refusal {
     Edges,
     /// This is the block of the first block copy whose cap is above 2^40.
     Cap(Name),
-    /// The program has a loop, and its bound is asked for.
-    Later,
 }
 
 impl Refusal {
@@ -58,7 +56,6 @@ impl Refusal {
             Refusal::Blocks => Status::Program,
             Refusal::Edges => Status::Program,
             Refusal::Cap(_) => Status::Program,
-            Refusal::Later => Status::Program,
         }
     }
 }

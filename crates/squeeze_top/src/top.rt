@@ -99,14 +99,14 @@ fn refuse<K: Sink>(alloc: Global, out: &mut K, refusal: &Refusal) -> Status
 /// the first refusal. `rt` and `gate` are for modes with workers, of which there is none today.
 ///
 /// The words are `MODE FILE`, and then, where they are given, `--costs NAME`, `--entry NAME` and `--input TEXT`, in this
-/// order; no name and no text begins with `-`. The modes are `bound`, which writes the bound of a program without loops;
+/// order; no name and no text begins with `-`. The modes are `bound`, which writes a bound of the program;
 /// `blocks`, which writes each block with its cost; `run`, which writes how the run on the input ends; and `print`, which
 /// writes the program. Without `--costs` each block costs 1; the entry is `main` where none is named, and the input is empty
 /// where none is given.
 ///
 /// The order of work, and so of refusals, is: the words; the program's bytes and their size; its tokens; its unit; its
 /// names, kinds and bounds; the input of a run; the table's bytes and their size; the table's costs; the
-/// limits of the flat graph; a loop, where the bound is asked for; and a fault of the sink. A fault of the shelf stands where its file is read. Want of memory may come before any of them. The
+/// limits of the flat graph; and a fault of the sink. A fault of the shelf stands where its file is read. Want of memory may come before any of them. The
 /// clauses that speak of a file hold where the shelf tells its contents.
 pub fn wcet_main<R: Threads + Wait + Sync, S: Shelf, K: Sink, G: Gate + Sync>(
     _rt: &R,

@@ -31,7 +31,7 @@ pub(crate) fn answer<S: Shelf>(alloc: Global, job: &Job, shelf: &mut S) -> Resul
     let task = task_of(alloc, job, &program)?;
     let costs = read_costs(alloc, job, &program, shelf)?;
     let plan = plan_of(alloc, program, costs)?;
-    answer_of(alloc, &task, &plan)
+    Ok(answer_of(alloc, &task, &plan)?)
 }
 
 // The program that the job's file has.

@@ -1,0 +1,14 @@
+use Rattle.std.proofs.Common.{◌∙◌, ap, sym}
+use Rattle.flow_laws.specs.Graphs.{graph}
+use Rattle.flow_laws.proofs.Ends.{edges_join}
+use Rattle.ipet_rows.specs.CapsBound.{cap_at}
+use Rattle.ipet_rows.proofs.AtCaps.{cap_is}
+use Rattle.ipet_rows.proofs.caps.cap_at.Goals as goal
+
+pub node-requires : goal.node-requires
+node-requires c = (edges_join c.args.plan.now.program c.requires.formed c.args.e c.edge.result.now c.edge.ensures).from
+
+pub returns : goal.returns
+returns c =
+    let g = graph c.args.plan.now.program in
+    sym (ap (cap_at g) c.edge.ensures ∙ cap_is g c.edge.result.now.from c.node.result.now c.node.ensures)

@@ -1,0 +1,6 @@
+pub mod FlowRows
+pub mod Counts
+pub mod CapsBound
+pub mod Sound
+pub mod Worked
+pub mod PlainDual

@@ -1,0 +1,16 @@
+//! The rows of implicit path enumeration of a plan, which the counts of each driven path meet, and the bound that the caps of
+//! its edges give (Li and Malik).
+#![tactic(auto)]
+
+mod building;
+mod caps;
+mod factors;
+mod law;
+mod sound;
+
+pub use caps::{caps_bound, caps_box};
+pub use law::{bound_by_caps, bound_by_caps_is_dual, path_counts_meet_rows, worked_rows};
+pub use sound::{SoundRow, SoundRows, rows};
+
+#[cfg(test)]
+mod tests;
