@@ -27,3 +27,5 @@ pub mod Constants
 pub mod Naming
 pub mod Uses
 pub mod Refusals
+pub mod Programs
+pub mod Checked

@@ -3,6 +3,7 @@
 use crate::name::Name;
 use crate::tree::{Stmt, Ty};
 use sqlite_items::Items;
+use std::marker::Model;
 
 /// A local of a function, a parameter among them. An array has a length, from 1 to 64.
 #[derive(Drop)]
@@ -34,12 +35,29 @@ pub struct Func {
     pub body: Items<Stmt>,
 }
 
-/// A program: its globals and functions in the order of the text, and the number of its entry function.
+/// A program: its globals and functions in the order of the text, and the number of its entry function. It is typed from a
+/// unit that the tokens of some text spell, and so only checking makes one.
 #[derive(Drop)]
 pub struct Program {
     pub globals: Items<Global>,
     pub funcs: Items<Func>,
     pub entry: u32,
+}
+
+impl Model for Program {
+    ghost use Rattle.std.specs.Coded.{codes};
+    ghost use Rattle.c_tree.specs.contracts.tree.Stmt as stmt;
+    ghost use Rattle.c_tree.specs.Programs.{Program};
+
+    ghost Value = { Program };
+
+    ghost coded = { Prim.hlevel (codes, stmt.the_row.coded) };
+
+    ghost use Rattle.c_tree.specs.Checked.{IsProgram, parts};
+
+    ghost view = { parts };
+
+    ghost invariant = { λ a. IsProgram (parts a) };
 }
 
 /// A block of a function, by the numbers of both.
