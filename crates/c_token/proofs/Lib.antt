@@ -11,4 +11,3 @@ pub mod Operands
 pub mod Reaching
 pub mod Sizes
 pub mod Sorts
-pub mod Spaces

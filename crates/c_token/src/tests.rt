@@ -326,26 +326,3 @@ fn a_token_a_byte(rt: HostRuntime) -> Result<(), Fail> {
     assert_eq!(rt; tokens.len(), 1_048_576);
     Ok(())
 }
-
-#[test]
-fn plain_spacing(rt: HostRuntime) -> Result<(), Fail> {
-    let alloc = rt.alloc();
-    for (text, plain) in SPACINGS {
-        assert!(rt; text.len() < 1_000_000);
-        let Ok(tokens) = tokens(alloc, text) else {
-            panic!(rt; "these are tokens");
-        };
-        assert_eq!(rt; is_plainly_spaced(text, tokens.as_slice()), plain);
-    }
-    Ok(())
-}
-
-const SPACINGS: [(&[u8], bool); 7] = [
-    (b"", true),
-    (b" int x\n;\t", true),
-    (b"a/**/b", false),
-    (b"// c", false),
-    (b"# 1\nx", false),
-    (b"#pragma loopbound 3\r\nwhile", true),
-    (b"#pragma once\nx", false),
-];

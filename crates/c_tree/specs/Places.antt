@@ -1,8 +1,6 @@
 -- Where the tokens of a text lie.
-use Rattle.std.specs.Prelude.{◌≡◌, ℕ, ◌<◌, ◌≤◌, true, List, [], ◌∷◌, length, drop, slice_range}
-use Rattle.std.specs.List.{list_all}
+use Rattle.std.specs.Prelude.{ℕ, ◌<◌, ◌≤◌, List, [], ◌∷◌, length, slice_range}
 use Rattle.c_tree.specs.declared.token.Token.{Token}
-use Rattle.c_tree.specs.Characters.{is_blank}
 use Rattle.c_tree.specs.Lexing.{Reaches}
 
 -- the bytes of a token
@@ -18,12 +16,3 @@ AreInOrder from (t ∷ ts) to = (from ≤ t.from) × (t.from < t.to) × AreInOrd
 abbrev pub AreSeparated : List ℕ → ℕ → List Token → Type 0
 AreSeparated text from [] = Reaches text (length text) from []
 AreSeparated text from (t ∷ ts) = Reaches text t.from from [] × AreSeparated text t.to ts
-
--- from a place on, all bytes outside the tokens are blanks
-abbrev pub AreBlankOutside : List ℕ → ℕ → List Token → Type 0
-AreBlankOutside text from [] = list_all is_blank (drop from text) ≡ true
-AreBlankOutside text from (t ∷ ts) = (list_all is_blank (slice_range text from t.from) ≡ true) × AreBlankOutside text t.to ts
-
--- the text has no comment and no skipped line: all bytes outside its tokens are blanks
-abbrev pub IsPlainlySpaced : List ℕ → List Token → Type 0
-IsPlainlySpaced text tokens = AreBlankOutside text 0 tokens

@@ -2,3 +2,6 @@
 #![tactic(auto)]
 
 pub mod laws;
+mod programs;
+
+pub use programs::is_well_formed;
