@@ -2,7 +2,7 @@
 
 ghost use Rattle.std.specs.Prelude.{◌≡◌, ◌≤◌, ◌++◌, OnOk, codes, flat_map};
 ghost use Rattle.c_tree.specs.SpelledExpressions.{level};
-ghost use Rattle.c_print.specs.PrintedExpressions.{joined, strength, expr_text, operand_text};
+ghost use Rattle.print_laws.specs.PrintedExpressions.{joined, strength, expr_text, operand_text};
 
 use crate::parts::{bin_text, push, push_name, push_number, type_text, un_text};
 use c_tree::{BinOp, Expr, Func, NoMemory, Program};
@@ -51,7 +51,7 @@ fn strength(expr: &Expr) -> u32
 
 // An operand, in parentheses where it holds less tightly than asked.
 #[cycle(exprs)]
-#[tactic(auto, unfolding(crate::specs::PrintedExpressions::operand_text))]
+#[tactic(auto, unfolding(print_laws::specs::PrintedExpressions::operand_text))]
 fn push_operand(
     text: &mut Vec<u8>,
     program: &Program,
@@ -72,7 +72,7 @@ fn push_operand(
 
 /// An expression.
 #[cycle(exprs)]
-#[tactic(auto, using(crate::proofs::ExprLayers::expr_layers))]
+#[tactic(auto, using(print_laws::proofs::ExprLayers::expr_layers))]
 pub(crate) fn push_expr(
     text: &mut Vec<u8>,
     program: &Program,
@@ -119,7 +119,7 @@ pub(crate) fn push_expr(
 }
 
 /// Expressions with a comma between any two.
-#[tactic(auto, unfolding(crate::specs::PrintedExpressions::joined))]
+#[tactic(auto, unfolding(print_laws::specs::PrintedExpressions::joined))]
 pub(crate) fn push_exprs(
     text: &mut Vec<u8>,
     program: &Program,

@@ -2,7 +2,6 @@
 #![tactic(auto)]
 
 mod exprs;
-pub mod law;
 mod parts;
 mod printing;
 mod simple;

@@ -1,8 +1,8 @@
 //! Names, types, operators and numbers, each written at the end of a text.
 
 ghost use Rattle.std.specs.Prelude.{◌≡◌, ◌++◌, OnOk, codes, decimal, slice_get};
-ghost use Rattle.c_print.specs.PrintedExpressions.{name_text, type_text, un_text, bin_text, number_text, value_text};
-ghost use Rattle.c_print.specs.PrintedStatements.{margin, length_text, declared_text, declaration_text, func_name};
+ghost use Rattle.print_laws.specs.PrintedExpressions.{name_text, type_text, un_text, bin_text, number_text, value_text};
+ghost use Rattle.print_laws.specs.PrintedStatements.{margin, length_text, declared_text, declaration_text, func_name};
 
 use c_tree::{BinOp, Func, Local, NoMemory, Program, Ty, UnOp, Var};
 use itoa::Buffer;
@@ -22,7 +22,7 @@ pub(crate) fn push_decimal(text: &mut Vec<u8>, number: u64) -> Result<(), NoMemo
 }
 
 /// A number of a type.
-#[tactic(auto, unfolding(crate::specs::PrintedExpressions::number_text))]
+#[tactic(auto, unfolding(print_laws::specs::PrintedExpressions::number_text))]
 pub(crate) fn push_number(text: &mut Vec<u8>, ty: Ty, number: u64) -> Result<(), NoMemory>
     ensures { OnOk result (text.new.items ≡ text.old.items ++ number_text ty number) }
 {
@@ -34,7 +34,7 @@ pub(crate) fn push_number(text: &mut Vec<u8>, ty: Ty, number: u64) -> Result<(),
 }
 
 /// A kept value of a type.
-#[tactic(auto, unfolding(crate::specs::PrintedExpressions::value_text))]
+#[tactic(auto, unfolding(print_laws::specs::PrintedExpressions::value_text))]
 pub(crate) fn push_value(text: &mut Vec<u8>, ty: Ty, value: i64) -> Result<(), NoMemory>
     ensures { OnOk result (text.new.items ≡ text.old.items ++ value_text ty value) }
 {
@@ -48,7 +48,7 @@ pub(crate) fn push_value(text: &mut Vec<u8>, ty: Ty, value: i64) -> Result<(), N
     }
 }
 
-#[tactic(auto, unfolding(crate::specs::PrintedExpressions::type_text))]
+#[tactic(auto, unfolding(print_laws::specs::PrintedExpressions::type_text))]
 pub(crate) fn type_text(ty: Ty) -> &'static [u8]
     ensures { result.now ≡ type_text ty }
 {
@@ -58,7 +58,7 @@ pub(crate) fn type_text(ty: Ty) -> &'static [u8]
     }
 }
 
-#[tactic(auto, unfolding(crate::specs::PrintedExpressions::un_text))]
+#[tactic(auto, unfolding(print_laws::specs::PrintedExpressions::un_text))]
 pub(crate) fn un_text(op: UnOp) -> &'static [u8]
     ensures { result.now ≡ un_text op }
 {
@@ -70,7 +70,7 @@ pub(crate) fn un_text(op: UnOp) -> &'static [u8]
     }
 }
 
-#[tactic(auto, unfolding(crate::specs::PrintedExpressions::bin_text))]
+#[tactic(auto, unfolding(print_laws::specs::PrintedExpressions::bin_text))]
 pub(crate) fn bin_text(op: BinOp) -> &'static [u8]
     ensures { result.now ≡ bin_text op }
 {
@@ -97,7 +97,7 @@ pub(crate) fn bin_text(op: BinOp) -> &'static [u8]
 }
 
 /// A variable by its name, in a function of a program.
-#[tactic(auto, unfolding(crate::specs::PrintedExpressions::name_text))]
+#[tactic(auto, unfolding(print_laws::specs::PrintedExpressions::name_text))]
 pub(crate) fn push_name(
     text: &mut Vec<u8>,
     program: &Program,
@@ -119,7 +119,7 @@ pub(crate) fn push_name(
 }
 
 /// The function of a number by its name.
-#[tactic(auto, unfolding(crate::specs::PrintedStatements::func_name))]
+#[tactic(auto, unfolding(print_laws::specs::PrintedStatements::func_name))]
 pub(crate) fn push_func_name(
     text: &mut Vec<u8>,
     program: &Program,
@@ -134,7 +134,7 @@ pub(crate) fn push_func_name(
 }
 
 /// Four blanks for each level.
-#[tactic(auto, unfolding(crate::specs::PrintedStatements::margin))]
+#[tactic(auto, unfolding(print_laws::specs::PrintedStatements::margin))]
 pub(crate) fn push_margin(text: &mut Vec<u8>, level: usize) -> Result<(), NoMemory>
     ensures { OnOk result (text.new.items ≡ text.old.items ++ margin level) }
 {
@@ -144,7 +144,7 @@ pub(crate) fn push_margin(text: &mut Vec<u8>, level: usize) -> Result<(), NoMemo
     Ok(())
 }
 
-#[tactic(auto, unfolding(crate::specs::PrintedStatements::length_text))]
+#[tactic(auto, unfolding(print_laws::specs::PrintedStatements::length_text))]
 fn push_length(text: &mut Vec<u8>, length: Option<u32>) -> Result<(), NoMemory>
     ensures { OnOk result (text.new.items ≡ text.old.items ++ length_text length) }
 {
@@ -159,7 +159,7 @@ fn push_length(text: &mut Vec<u8>, length: Option<u32>) -> Result<(), NoMemory>
 }
 
 /// A type, a name, and the length of an array.
-#[tactic(auto, unfolding(crate::specs::PrintedStatements::declared_text))]
+#[tactic(auto, unfolding(print_laws::specs::PrintedStatements::declared_text))]
 pub(crate) fn push_declared(
     text: &mut Vec<u8>,
     ty: Ty,
@@ -175,7 +175,7 @@ pub(crate) fn push_declared(
 }
 
 /// The declaration of a local, without an initialiser.
-#[tactic(auto, unfolding(crate::specs::PrintedStatements::declaration_text, crate::specs::PrintedStatements::local_text))]
+#[tactic(auto, unfolding(print_laws::specs::PrintedStatements::declaration_text, print_laws::specs::PrintedStatements::local_text))]
 pub(crate) fn push_declaration(text: &mut Vec<u8>, func: &Func, number: u32) -> Result<(), NoMemory>
     ensures { OnOk result (text.new.items ≡ text.old.items ++ declaration_text func.now number) }
 {

@@ -1,9 +1,9 @@
 //! The text of a program.
 
 ghost use Rattle.std.specs.Prelude.{◌≡◌, ◌++◌, IfOk, OnOk, take, codes, flat_map};
-ghost use Rattle.c_print.specs.PrintedExpressions.{value_text, joined};
-ghost use Rattle.c_print.specs.PrintedStatements.{list_text};
-ghost use Rattle.c_print.specs.Printed.{outer_text, initial_text, global_text, result_text, param_text, params_text, head_text, func_text, printed};
+ghost use Rattle.print_laws.specs.PrintedExpressions.{value_text, joined};
+ghost use Rattle.print_laws.specs.PrintedStatements.{list_text};
+ghost use Rattle.print_laws.specs.Printed.{outer_text, initial_text, global_text, result_text, param_text, params_text, head_text, func_text, printed};
 
 use crate::parts::{push, push_declared, push_value, type_text};
 use crate::stmts::push_block;
@@ -12,7 +12,7 @@ use std::alloc::Global;
 
 /// The text of a program: one declaration or statement a line in the order of the program, the globals first, four blanks
 /// a level, braces always, and the bound of a loop at the beginning of the line before it. `NoMemory` is want of memory.
-#[tactic(auto, unfolding(crate::specs::Printed::printed))]
+#[tactic(auto, unfolding(print_laws::specs::Printed::printed))]
 pub fn print(alloc: Global, program: &Program) -> Result<Vec<u8>, NoMemory>
     ensures text { IfOk result (λ t. t.items ≡ printed program.now) }
 {
@@ -31,7 +31,7 @@ fn push_globals(text: &mut Vec<u8>, globals: &[Outside]) -> Result<(), NoMemory>
     Ok(())
 }
 
-#[tactic(auto, unfolding(crate::specs::Printed::global_text, crate::specs::Printed::outer_text))]
+#[tactic(auto, unfolding(print_laws::specs::Printed::global_text, print_laws::specs::Printed::outer_text))]
 fn push_global(text: &mut Vec<u8>, global: &Outside) -> Result<(), NoMemory>
     ensures { OnOk result (text.new.items ≡ text.old.items ++ global_text global.now) }
 {
@@ -44,7 +44,7 @@ fn push_global(text: &mut Vec<u8>, global: &Outside) -> Result<(), NoMemory>
 }
 
 // The initialiser of a global of this type and length.
-#[tactic(auto, unfolding(crate::specs::Printed::initial_text, crate::specs::PrintedStatements::list_text, crate::specs::PrintedExpressions::joined))]
+#[tactic(auto, unfolding(print_laws::specs::Printed::initial_text, print_laws::specs::PrintedStatements::list_text, print_laws::specs::PrintedExpressions::joined))]
 fn push_initial(
     text: &mut Vec<u8>,
     ty: Ty,
@@ -87,7 +87,7 @@ fn push_funcs(text: &mut Vec<u8>, program: &Program, funcs: &[Func]) -> Result<(
     Ok(())
 }
 
-#[tactic(auto, unfolding(crate::specs::Printed::func_text))]
+#[tactic(auto, unfolding(print_laws::specs::Printed::func_text))]
 fn push_func(text: &mut Vec<u8>, program: &Program, func: &Func) -> Result<(), NoMemory>
     ensures { OnOk result (text.new.items ≡ text.old.items ++ func_text program.now func.now) }
 {
@@ -97,7 +97,7 @@ fn push_func(text: &mut Vec<u8>, program: &Program, func: &Func) -> Result<(), N
 }
 
 // The first line of a function.
-#[tactic(auto, unfolding(crate::specs::Printed::head_text))]
+#[tactic(auto, unfolding(print_laws::specs::Printed::head_text))]
 fn push_head(text: &mut Vec<u8>, func: &Func) -> Result<(), NoMemory>
     ensures { OnOk result (text.new.items ≡ text.old.items ++ head_text func.now) }
 {
@@ -109,7 +109,7 @@ fn push_head(text: &mut Vec<u8>, func: &Func) -> Result<(), NoMemory>
     push(text, b") {\n")
 }
 
-#[tactic(auto, unfolding(crate::specs::Printed::result_text))]
+#[tactic(auto, unfolding(print_laws::specs::Printed::result_text))]
 fn push_result(text: &mut Vec<u8>, given: Option<Ty>) -> Result<(), NoMemory>
     ensures { OnOk result (text.new.items ≡ text.old.items ++ result_text given) }
 {
@@ -128,7 +128,7 @@ fn push_params(text: &mut Vec<u8>, func: &Func) -> Result<(), NoMemory>
     push_listed(text, &locals[..count])
 }
 
-#[tactic(auto, unfolding(crate::specs::Printed::params_text, crate::specs::Printed::param_text, crate::specs::PrintedExpressions::joined))]
+#[tactic(auto, unfolding(print_laws::specs::Printed::params_text, print_laws::specs::Printed::param_text, print_laws::specs::PrintedExpressions::joined))]
 fn push_listed(text: &mut Vec<u8>, params: &[Local]) -> Result<(), NoMemory>
     ensures { OnOk result (text.new.items ≡ text.old.items ++ params_text params.now) }
 {
@@ -141,7 +141,7 @@ fn push_listed(text: &mut Vec<u8>, params: &[Local]) -> Result<(), NoMemory>
     }
 }
 
-#[tactic(auto, unfolding(crate::specs::Printed::param_text))]
+#[tactic(auto, unfolding(print_laws::specs::Printed::param_text))]
 fn push_more_params(text: &mut Vec<u8>, params: &[Local]) -> Result<(), NoMemory>
     ensures { OnOk result (text.new.items ≡ text.old.items ++ flat_map (λ l. codes ", " ++ param_text l) params.now) }
 {

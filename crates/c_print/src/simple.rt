@@ -1,15 +1,15 @@
 //! The text of statements of one line (C11 6.7, 6.8).
 
 ghost use Rattle.std.specs.Prelude.{◌≡◌, ◌++◌, OnOk};
-ghost use Rattle.c_print.specs.PrintedExpressions.{expr_text};
-ghost use Rattle.c_print.specs.PrintedStatements.{list_text, value_part, place_text, assign_text, target_text, called_text, return_text, simple_text};
+ghost use Rattle.print_laws.specs.PrintedExpressions.{expr_text};
+ghost use Rattle.print_laws.specs.PrintedStatements.{list_text, value_part, place_text, assign_text, target_text, called_text, return_text, simple_text};
 
 use crate::exprs::{push_expr, push_exprs};
 use crate::parts::{bin_text, push, push_declaration, push_func_name, push_name};
 use c_tree::{BinOp, Expr, Func, NoMemory, Place, Program, Stmt, Target};
 
 /// A statement of one line, without its semicolon; the others have none of this.
-#[tactic(auto, using(crate::proofs::StmtLayers::simple_layers))]
+#[tactic(auto, using(print_laws::proofs::StmtLayers::simple_layers))]
 pub(crate) fn push_simple(
     text: &mut Vec<u8>,
     program: &Program,
@@ -49,7 +49,7 @@ pub(crate) fn push_simple(
     }
 }
 
-#[tactic(auto, unfolding(crate::specs::PrintedStatements::value_part))]
+#[tactic(auto, unfolding(print_laws::specs::PrintedStatements::value_part))]
 fn push_value_part(
     text: &mut Vec<u8>,
     program: &Program,
@@ -67,7 +67,7 @@ fn push_value_part(
     }
 }
 
-#[tactic(auto, unfolding(crate::specs::PrintedStatements::list_text))]
+#[tactic(auto, unfolding(print_laws::specs::PrintedStatements::list_text))]
 fn push_list(
     text: &mut Vec<u8>,
     program: &Program,
@@ -81,7 +81,7 @@ fn push_list(
     push(text, b"}")
 }
 
-#[tactic(auto, unfolding(crate::specs::PrintedStatements::place_text))]
+#[tactic(auto, unfolding(print_laws::specs::PrintedStatements::place_text))]
 fn push_place(
     text: &mut Vec<u8>,
     program: &Program,
@@ -101,7 +101,7 @@ fn push_place(
     }
 }
 
-#[tactic(auto, unfolding(crate::specs::PrintedStatements::assign_text))]
+#[tactic(auto, unfolding(print_laws::specs::PrintedStatements::assign_text))]
 fn push_assign(text: &mut Vec<u8>, op: Option<BinOp>) -> Result<(), NoMemory>
     ensures { OnOk result (text.new.items ≡ text.old.items ++ assign_text op) }
 {
@@ -115,7 +115,7 @@ fn push_assign(text: &mut Vec<u8>, op: Option<BinOp>) -> Result<(), NoMemory>
     }
 }
 
-#[tactic(auto, unfolding(crate::specs::PrintedStatements::target_text))]
+#[tactic(auto, unfolding(print_laws::specs::PrintedStatements::target_text))]
 fn push_target(
     text: &mut Vec<u8>,
     program: &Program,
@@ -137,7 +137,7 @@ fn push_target(
     }
 }
 
-#[tactic(auto, unfolding(crate::specs::PrintedStatements::called_text))]
+#[tactic(auto, unfolding(print_laws::specs::PrintedStatements::called_text))]
 fn push_called(
     text: &mut Vec<u8>,
     program: &Program,
@@ -153,7 +153,7 @@ fn push_called(
     push(text, b")")
 }
 
-#[tactic(auto, unfolding(crate::specs::PrintedStatements::return_text))]
+#[tactic(auto, unfolding(print_laws::specs::PrintedStatements::return_text))]
 fn push_return(
     text: &mut Vec<u8>,
     program: &Program,

@@ -1,8 +1,8 @@
 //! The lines of statements (C11 6.8).
 
 ghost use Rattle.std.specs.Prelude.{◌≡◌, ◌+◌, ◌++◌, OnOk, codes};
-ghost use Rattle.c_print.specs.PrintedExpressions.{expr_text};
-ghost use Rattle.c_print.specs.PrintedStatements.{line, bound_text, for_text, simple_text, stmt_text, stmts_text, otherwise_text, part_text};
+ghost use Rattle.print_laws.specs.PrintedExpressions.{expr_text};
+ghost use Rattle.print_laws.specs.PrintedStatements.{line, bound_text, for_text, simple_text, stmt_text, stmts_text, otherwise_text, part_text};
 
 use crate::exprs::push_expr;
 use crate::parts::{push, push_decimal, push_margin};
@@ -11,7 +11,7 @@ use c_tree::{Expr, Func, NoMemory, Program, Stmt};
 use sqlite_items::Boxed;
 
 // A line at a level.
-#[tactic(auto, unfolding(crate::specs::PrintedStatements::line))]
+#[tactic(auto, unfolding(print_laws::specs::PrintedStatements::line))]
 fn push_line(text: &mut Vec<u8>, level: usize, bytes: &[u8]) -> Result<(), NoMemory>
     ensures { OnOk result (text.new.items ≡ text.old.items ++ line level bytes.now) }
 {
@@ -21,7 +21,7 @@ fn push_line(text: &mut Vec<u8>, level: usize, bytes: &[u8]) -> Result<(), NoMem
 }
 
 // A line at a level in which an expression stands.
-#[tactic(auto, unfolding(crate::specs::PrintedStatements::line))]
+#[tactic(auto, unfolding(print_laws::specs::PrintedStatements::line))]
 fn push_around(
     text: &mut Vec<u8>,
     program: &Program,
@@ -40,7 +40,7 @@ fn push_around(
     push(text, b"\n")
 }
 
-#[tactic(auto, unfolding(crate::specs::PrintedStatements::line))]
+#[tactic(auto, unfolding(print_laws::specs::PrintedStatements::line))]
 fn push_simple_line(
     text: &mut Vec<u8>,
     program: &Program,
@@ -56,7 +56,7 @@ fn push_simple_line(
 }
 
 // The line of a loop's bound, which stands at its beginning.
-#[tactic(auto, unfolding(crate::specs::PrintedStatements::bound_text))]
+#[tactic(auto, unfolding(print_laws::specs::PrintedStatements::bound_text))]
 fn push_bound(text: &mut Vec<u8>, bound: u32) -> Result<(), NoMemory>
     ensures { OnOk result (text.new.items ≡ text.old.items ++ bound_text bound) }
 {
@@ -66,7 +66,7 @@ fn push_bound(text: &mut Vec<u8>, bound: u32) -> Result<(), NoMemory>
 }
 
 // The initialiser or the step of a `for`.
-#[tactic(auto, unfolding(crate::specs::PrintedStatements::part_text))]
+#[tactic(auto, unfolding(print_laws::specs::PrintedStatements::part_text))]
 fn push_part(
     text: &mut Vec<u8>,
     program: &Program,
@@ -82,7 +82,7 @@ fn push_part(
 }
 
 // The first line of a `for`, without its margin and its line feed.
-#[tactic(auto, unfolding(crate::specs::PrintedStatements::for_text))]
+#[tactic(auto, unfolding(print_laws::specs::PrintedStatements::for_text))]
 fn push_for_head(
     text: &mut Vec<u8>,
     program: &Program,
@@ -103,7 +103,7 @@ fn push_for_head(
 }
 
 // The first line of a `for`, at a level.
-#[tactic(auto, unfolding(crate::specs::PrintedStatements::line))]
+#[tactic(auto, unfolding(print_laws::specs::PrintedStatements::line))]
 fn push_for(
     text: &mut Vec<u8>,
     program: &Program,
@@ -140,7 +140,7 @@ pub(crate) fn push_block(
 
 // What stands behind the first list of an `if`.
 #[cycle(stmts)]
-#[tactic(auto, using(crate::proofs::StmtLayers::otherwise_layers))]
+#[tactic(auto, using(print_laws::proofs::StmtLayers::otherwise_layers))]
 fn push_otherwise(
     text: &mut Vec<u8>,
     program: &Program,
@@ -160,7 +160,7 @@ fn push_otherwise(
 
 // A statement at a level.
 #[cycle(stmts)]
-#[tactic(auto, using(crate::proofs::StmtLayers::stmt_layers))]
+#[tactic(auto, using(print_laws::proofs::StmtLayers::stmt_layers))]
 fn push_stmt(
     text: &mut Vec<u8>,
     program: &Program,

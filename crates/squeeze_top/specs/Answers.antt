@@ -14,7 +14,7 @@ use Rattle.c_run.specs.declared.run_end.RunEnd.{RunEnd}
 use Rattle.c_run.specs.declared.run_end.RunEnd.TheVariants.{Ends, Undefined, OverBound}
 use Rattle.c_run.specs.Ends.{ended}
 use Rattle.c_run.specs.InputTexts.{input_text}
-use Rattle.c_print.specs.Printed.{printed}
+use Rattle.print_laws.specs.Printed.{printed}
 use Rattle.squeeze_top.specs.declared.words.Mode.{Mode}
 use Rattle.squeeze_top.specs.declared.words.Mode.TheVariants.{Bound, Blocks, Run, Print}
 

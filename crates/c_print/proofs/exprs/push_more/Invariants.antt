@@ -1,5 +1,5 @@
 use Rattle.std.proofs.Common.{◌≡◌, ◌++◌, take, codes, flat_map}
-use Rattle.c_print.specs.PrintedExpressions.{expr_text}
+use Rattle.print_laws.specs.PrintedExpressions.{expr_text}
 use Rattle.c_print.proofs.exprs.push_more.Given as goal
 
 abbrev pub invariant-loop-expr : goal.invariant-loop-expr

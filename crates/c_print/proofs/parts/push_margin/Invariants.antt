@@ -1,5 +1,5 @@
 use Rattle.std.proofs.Common.{◌≡◌, ◌++◌}
-use Rattle.c_print.specs.PrintedStatements.{margin}
+use Rattle.print_laws.specs.PrintedStatements.{margin}
 use Rattle.c_print.proofs.parts.push_margin.Given as goal
 
 abbrev pub invariant-loop : goal.invariant-loop

@@ -1,5 +1,5 @@
 use Rattle.std.proofs.Common.{◌≡◌, ◌++◌, take, flat_map}
-use Rattle.c_print.specs.Printed.{func_text}
+use Rattle.print_laws.specs.Printed.{func_text}
 use Rattle.c_print.proofs.printing.push_funcs.Given as goal
 
 abbrev pub invariant-loop-func : goal.invariant-loop-func

@@ -1,5 +1,5 @@
 use Rattle.std.proofs.Common.{◌≡◌, ◌++◌, take, flat_map}
-use Rattle.c_print.specs.Printed.{global_text}
+use Rattle.print_laws.specs.Printed.{global_text}
 use Rattle.c_print.proofs.printing.push_globals.Given as goal
 
 abbrev pub invariant-loop-global : goal.invariant-loop-global

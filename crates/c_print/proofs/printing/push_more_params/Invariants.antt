@@ -1,5 +1,5 @@
 use Rattle.std.proofs.Common.{◌≡◌, ◌++◌, take, codes, flat_map}
-use Rattle.c_print.specs.Printed.{param_text}
+use Rattle.print_laws.specs.Printed.{param_text}
 use Rattle.c_print.proofs.printing.push_more_params.Given as goal
 
 abbrev pub invariant-loop-local : goal.invariant-loop-local

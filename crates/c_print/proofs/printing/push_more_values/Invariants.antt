@@ -1,5 +1,5 @@
 use Rattle.std.proofs.Common.{◌≡◌, ◌++◌, take, codes, flat_map}
-use Rattle.c_print.specs.PrintedExpressions.{value_text}
+use Rattle.print_laws.specs.PrintedExpressions.{value_text}
 use Rattle.c_print.proofs.printing.push_more_values.Given as goal
 
 abbrev pub invariant-loop-value : goal.invariant-loop-value

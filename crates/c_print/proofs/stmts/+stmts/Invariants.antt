@@ -1,5 +1,5 @@
 use Rattle.std.proofs.Common.{◌≡◌, ◌++◌, ◌+◌, take}
-use Rattle.c_print.specs.PrintedStatements.{stmts_text}
+use Rattle.print_laws.specs.PrintedStatements.{stmts_text}
 use Rattle.c_print.proofs.stmts.+stmts.Given as goal
 
 abbrev pub invariant-push_block-loop-stmt : goal.invariant-push_block-loop-stmt

@@ -12,7 +12,7 @@ use Rattle.c_tree.specs.declared.tree.Stmt.TheVariants.{Empty, Scalar, Array, As
 use Rattle.c_tree.specs.declared.program.Local.{Local as Declared}
 use Rattle.c_tree.specs.declared.program.Func.{Func}
 use Rattle.c_tree.specs.declared.program.Program.{Program}
-use Rattle.c_print.specs.PrintedExpressions.{name_text, type_text, bin_text, joined, expr_text}
+use Rattle.print_laws.specs.PrintedExpressions.{name_text, type_text, bin_text, joined, expr_text}
 
 -- ---- lines
 

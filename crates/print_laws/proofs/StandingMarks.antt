@@ -9,8 +9,8 @@ use Rattle.c_tree.specs.declared.tree.UnOp.TheVariants as un
 use Rattle.c_tree.specs.Characters.{is_nondigit, is_digit, is_name_byte}
 use Rattle.c_tree.specs.Lexemes.{marks, keywords, is_name, is_number_run, could_be_token, kind_of}
 use Rattle.c_tree.specs.Lexing.{opens_block_comment, opens_line_comment}
-use Rattle.c_print.specs.PrintedExpressions.{un_text, bin_text}
-use Rattle.c_print.proofs.Composed.{Stands}
+use Rattle.print_laws.specs.PrintedExpressions.{un_text, bin_text}
+use Rattle.print_laws.proofs.Composed.{Stands}
 
 mark : (w : List ℕ) (c : ℕ) (after : List ℕ) → kind_of w ≡ Some Mark → could_be_token w ≡ true → ((more : List ℕ) → could_be_token (w ++ c ∷ more) ≡ false)
     → opens_block_comment (w ++ c ∷ after) ≡ false → opens_line_comment (w ++ c ∷ after) ≡ false → Stands Mark w (c ∷ after)

@@ -12,9 +12,9 @@ use Rattle.c_tree.specs.declared.tree.Stmt.TheBlock.{shape-the_row-Stmt-0, hidde
 use denote.Hole.Carrier.{hidden}
 use Rattle.c_tree.specs.declared.program.Func.{Func}
 use Rattle.c_tree.specs.declared.program.Program.{Program}
-use Rattle.c_print.specs.PrintedExpressions.{expr_text}
-use Rattle.c_print.specs.PrintedStatements.{line, declaration_text, list_text, value_part, place_text, assign_text, target_text, called_text, return_text, simple_text, bound_text, for_text, stmt_text, row_lines, else_text, held_text, sole_text, stmts_text, otherwise_text, part_text}
-use Rattle.c_print.proofs.Pieces.{two, three, four}
+use Rattle.print_laws.specs.PrintedExpressions.{expr_text}
+use Rattle.print_laws.specs.PrintedStatements.{line, declaration_text, list_text, value_part, place_text, assign_text, target_text, called_text, return_text, simple_text, bound_text, for_text, stmt_text, row_lines, else_text, held_text, sole_text, stmts_text, otherwise_text, part_text}
+use Rattle.print_laws.proofs.Pieces.{two, three, four}
 
 -- ---- statements of one line
 

@@ -8,7 +8,7 @@ use Rattle.c_tree.specs.declared.token.Kind.{Kind}
 use Rattle.c_tree.specs.Characters.{begins, is_digit, is_nondigit, is_name_byte, is_sign}
 use Rattle.c_tree.specs.Lexemes.{is_among, marks, is_name, is_number_run, continues_number, could_be_token, kind_of}
 use Rattle.c_tree.specs.Lexing.{opens_block_comment, opens_line_comment}
-use Rattle.c_print.proofs.Composed.{Stands}
+use Rattle.print_laws.proofs.Composed.{Stands}
 
 both_true : (a b : Bool) → (a && b) ≡ true → (a ≡ true) × (b ≡ true)
 both_true true b e = (refl, e)

@@ -2,8 +2,8 @@ use Rattle.std.proofs.Common.{refl}
 use Rattle.std.specs.Fmt as fmt
 use Rattle.c_tree.specs.declared.tree.Expr.TheBlock as eb
 use denote.Hole.Carrier as carrier
-use Rattle.c_print.specs.PrintedExpressions as e
-use Rattle.c_print.proofs.law.worked_expressions.Goals as goal
+use Rattle.print_laws.specs.PrintedExpressions as e
+use Rattle.print_laws.proofs.law.worked_expressions.Goals as goal
 
 pub returns-clause-left : goal.returns-clause-left
 unfolding fmt.digits eb.shape-the_row-Expr-0 eb.hidden-the_row-Expr-0 carrier.hidden e.expr_text e.row_text e.name_text e.type_text e.un_text e.bin_text e.number_text

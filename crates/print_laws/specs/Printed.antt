@@ -6,8 +6,8 @@ use Rattle.c_tree.specs.declared.program.Local.{Local}
 use Rattle.c_tree.specs.declared.program.Global.{Global}
 use Rattle.c_tree.specs.declared.program.Func.{Func}
 use Rattle.c_tree.specs.declared.program.Program.{Program}
-use Rattle.c_print.specs.PrintedExpressions.{type_text, value_text, joined}
-use Rattle.c_print.specs.PrintedStatements.{declared_text, list_text, stmts_text}
+use Rattle.print_laws.specs.PrintedExpressions.{type_text, value_text, joined}
+use Rattle.print_laws.specs.PrintedStatements.{declared_text, list_text, stmts_text}
 
 -- ---- globals
 

@@ -13,9 +13,9 @@ use Rattle.c_tree.specs.declared.tree.Ty.TheVariants as ty
 use Rattle.c_tree.specs.declared.token.Kind.TheVariants.{Number}
 use Rattle.c_tree.specs.Characters.{is_digit, is_nondigit, is_name_byte}
 use Rattle.c_tree.specs.Lexemes.{is_number_run, continues_number, is_suffix, is_suffixed, without_suffix, is_hexadecimal, base_of, digits_of, is_numeral, typed, constant_in, constant_of, kind_of}
-use Rattle.c_print.specs.PrintedExpressions.{suffix, number_text}
-use Rattle.c_print.proofs.ComposedExpressions.{limit, is_unsigned}
-use Rattle.c_print.proofs.Standing.{digit_in_name, number_goes_on}
+use Rattle.print_laws.specs.PrintedExpressions.{suffix, number_text}
+use Rattle.print_laws.proofs.ComposedExpressions.{limit, is_unsigned}
+use Rattle.print_laws.proofs.Standing.{digit_in_name, number_goes_on}
 
 value_is_digit : (c : ℕ) → digit_value c < 10 → is_digit c ≡ true
 unfolding is_digit

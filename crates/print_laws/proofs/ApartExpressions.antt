@@ -15,13 +15,13 @@ use Rattle.c_tree.specs.declared.program.Program.{Program}
 use Rattle.c_tree.specs.Characters.{is_blank, is_line_feed, is_digit, is_nondigit, is_name_byte, is_sign}
 use Rattle.c_tree.specs.Lexemes.{is_name, is_number_run, keywords, kind_of}
 use Rattle.c_tree.specs.SpelledExpressions.{level}
-use Rattle.c_print.specs.PrintedExpressions.{name_text, type_text, un_text, bin_text, number_text, strength}
-use Rattle.c_print.proofs.Composed.{Piece, Gap, text_of, Stands, AreApart}
-use Rattle.c_print.proofs.Standing.{EndsNumber, word_stands, number_stands}
-use Rattle.c_print.proofs.StandingNumbers.{number_text_is}
-use Rattle.c_print.proofs.StandingMarks.{left_paren_stands, right_paren_stands, left_bracket_stands, right_bracket_stands, question_stands, colon_stands, binary_stands, unary_stands}
-use Rattle.c_print.proofs.ComposedExpressions.{IsIdentifier, limit, is_unsigned, IsShowable, num, name, elem, un, cast, bin, cond, mark, enclosed_pieces, pieces}
-use Rattle.c_print.proofs.SpelledAgain.{level-le}
+use Rattle.print_laws.specs.PrintedExpressions.{name_text, type_text, un_text, bin_text, number_text, strength}
+use Rattle.print_laws.proofs.Composed.{Piece, Gap, text_of, Stands, AreApart}
+use Rattle.print_laws.proofs.Standing.{EndsNumber, word_stands, number_stands}
+use Rattle.print_laws.proofs.StandingNumbers.{number_text_is}
+use Rattle.print_laws.proofs.StandingMarks.{left_paren_stands, right_paren_stands, left_bracket_stands, right_bracket_stands, question_stands, colon_stands, binary_stands, unary_stands}
+use Rattle.print_laws.proofs.ComposedExpressions.{IsIdentifier, limit, is_unsigned, IsShowable, num, name, elem, un, cast, bin, cond, mark, enclosed_pieces, pieces}
+use Rattle.print_laws.proofs.SpelledAgain.{level-le}
 
 -- ---- what a text begins with
 

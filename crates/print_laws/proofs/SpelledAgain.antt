@@ -24,9 +24,10 @@ use Rattle.c_tree.specs.Symbols.{symbol_of, type_of, value_of}
 use Rattle.c_tree.specs.Symbols as symbols
 use Rattle.c_tree.specs.SpelledExpressions as g
 use Rattle.c_tree.specs.SpelledExpressions.{level, unary_operator, TypeName, Expression}
-use Rattle.c_print.specs.PrintedExpressions.{name_text, type_text, un_text, bin_text, strength}
-use Rattle.c_print.proofs.Composed.{Piece, Gap, Lexeme, Pragma, piece_text}
-use Rattle.c_print.proofs.ComposedExpressions.{IsShowable, num, name, elem, un, cast, bin, cond, mark, enclosed_pieces, is_unsigned, pieces}
+use Rattle.print_laws.specs.Shown.{Shows, shows_num, shows_name, shows_elem, shows_un, shows_cast, shows_bin, shows_cond, shows_paren}
+use Rattle.print_laws.specs.PrintedExpressions.{name_text, type_text, un_text, bin_text, strength}
+use Rattle.print_laws.proofs.Composed.{Piece, Gap, Lexeme, Pragma, piece_text}
+use Rattle.print_laws.proofs.ComposedExpressions.{IsShowable, num, name, elem, un, cast, bin, cond, mark, enclosed_pieces, is_unsigned, pieces}
 
 -- ---- lexemes of pieces
 
@@ -39,19 +40,6 @@ lexemes_of at [] = []
 lexemes_of at (Gap c ∷ ps) = lexemes_of (at + length (piece_text (Gap c))) ps
 lexemes_of at (Lexeme k bytes ∷ ps) = lexeme_at at k bytes ∷ lexemes_of (at + length bytes) ps
 lexemes_of at (Pragma n ∷ ps) = lexeme_at at (kind.Bound n) (piece_text (Pragma n)) ∷ lexemes_of (at + length (piece_text (Pragma n))) ps
-
--- ---- what shows what
-
--- a tree of a text shows an expression: it has a name for each variable, places and parentheses besides
-pub data Shows (p : Program) (f : Func) : RawExpr → Expr → Type 0 where
-  shows_num : {at n : ℕ} {t : Ty} → Shows p f (e.Num at t n) (x.Num t n)
-  shows_name : {y : Spot} {v : Var} → y.name ≡ name_text p f v → Shows p f (e.Name y) (x.Name v)
-  shows_elem : {y : Spot} {v : Var} {i : RawExpr} {j : Expr} → y.name ≡ name_text p f v → Shows p f i j → Shows p f (e.Elem y i) (x.Elem v j)
-  shows_un : {at : ℕ} {o : UnOp} {a : RawExpr} {b : Expr} → Shows p f a b → Shows p f (e.Un at o a) (x.Un o b)
-  shows_cast : {at : ℕ} {t : Ty} {a : RawExpr} {b : Expr} → Shows p f a b → Shows p f (e.Cast at t a) (x.Cast t b)
-  shows_bin : {o : BinOp} {a c : RawExpr} {b d : Expr} → Shows p f a b → Shows p f c d → Shows p f (e.Bin o a c) (x.Bin o b d)
-  shows_cond : {a b c : RawExpr} {i j k : Expr} → Shows p f a i → Shows p f b j → Shows p f c k → Shows p f (e.Cond a b c) (x.Cond i j k)
-  shows_paren : {at : ℕ} {a : RawExpr} {b : Expr} → Shows p f a b → Shows p f (e.Paren at a) b
 
 -- the pieces from a place on are an expression of a level that shows this one, and then the rest
 pub record IsSpelled (p : Program) (f : Func) (n at : ℕ) (ps rest : List Piece) (a : Expr) : Type 0 where

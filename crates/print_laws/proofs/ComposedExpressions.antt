@@ -13,10 +13,10 @@ use Rattle.c_tree.specs.declared.program.Func.{Func}
 use Rattle.c_tree.specs.declared.program.Program.{Program}
 use Rattle.c_tree.specs.Lexemes.{is_name, kind_of}
 use Rattle.c_tree.specs.SpelledExpressions.{level}
-use Rattle.c_print.specs.PrintedExpressions.{blanked, name_text, type_text, un_text, bin_text, number_text, strength, enclosed, expr_text, operand_text}
-use Rattle.c_print.proofs.ExprLayers.{text-Num, text-Name, text-Elem, text-Un, text-Cast, text-Bin, text-Cond}
-use Rattle.c_print.proofs.Pieces.{before2, before4, before5}
-use Rattle.c_print.proofs.Composed.{Piece, Gap, Lexeme, text_of}
+use Rattle.print_laws.specs.PrintedExpressions.{blanked, name_text, type_text, un_text, bin_text, number_text, strength, enclosed, expr_text, operand_text}
+use Rattle.print_laws.proofs.ExprLayers.{text-Num, text-Name, text-Elem, text-Un, text-Cast, text-Bin, text-Cond}
+use Rattle.print_laws.proofs.Pieces.{before2, before4, before5}
+use Rattle.print_laws.proofs.Composed.{Piece, Gap, Lexeme, text_of}
 
 -- a name that is no keyword
 pub record IsIdentifier (bytes : List ℕ) : Type 0 where

@@ -7,8 +7,8 @@ use Rattle.c_tree.specs.declared.token.Token.{Token}
 use Rattle.c_tree.specs.Places.{spelling}
 use Rattle.c_tree.specs.Symbols.{symbol_of, type_of, value_of, lexeme, lexemes}
 use Rattle.c_tree.specs.Symbols as symbols
-use Rattle.c_print.proofs.Composed.{Piece, Gap, Lexeme, Pragma, piece_text, text_of, tokens_of, At, at_piece}
-use Rattle.c_print.proofs.SpelledAgain.{lexeme_at, lexemes_of}
+use Rattle.print_laws.proofs.Composed.{Piece, Gap, Lexeme, Pragma, piece_text, text_of, tokens_of, At, at_piece}
+use Rattle.print_laws.proofs.SpelledAgain.{lexeme_at, lexemes_of}
 
 abbrev token_at : ℕ → Kind → List ℕ → Token
 token_at at k w = record { kind = k; from = at; to = at + length w }

@@ -1,12 +1,23 @@
-//! Worked texts.
+//! Printed programs are read again, and worked texts.
 
-ghost use Rattle.std.specs.Prelude.{◌≡◌, ◌++◌, codes};
+ghost use Rattle.std.specs.Prelude.{◌≡◌, ℕ, List, ◌++◌, codes};
 ghost use Rattle.c_tree.specs.declared.tree.Ty.TheVariants as ty;
 ghost use Rattle.c_tree.specs.declared.tree.UnOp.TheVariants as un;
 ghost use Rattle.c_tree.specs.declared.tree.BinOp.TheVariants as op;
 ghost use Rattle.c_tree.specs.declared.tree.Expr.TheVariants.{Num, Un, Cast, Bin, Cond};
-ghost use Rattle.c_print.specs.Printed.{printed};
-ghost use Rattle.c_print.specs.Worked.{return_of_zero, each_construct, a, b, c, shown};
+ghost use Rattle.c_tree.specs.declared.program.Program.{Program};
+ghost use Rattle.c_tree.specs.declared.unit.Unit.{Unit as Tree};
+ghost use Rattle.c_tree.specs.Checked.{IsSpelled};
+ghost use Rattle.c_tree.specs.Refusals.{Typed};
+ghost use Rattle.print_laws.specs.Again.{IsReadAs};
+ghost use Rattle.print_laws.specs.Printed.{printed};
+ghost use Rattle.print_laws.specs.Worked.{return_of_zero, each_construct, a, b, c, shown};
+
+/// A program that is typed from a unit which the tokens of some text spell is read again from its printed text: that is tokens,
+/// they spell a unit, and this is typed with the same entry as the same program.
+pub fn printed_programs_are_read_again()
+    ensures { (unit : Tree) (entry : List ℕ) (p : Program) → IsSpelled unit → Typed unit entry p → IsReadAs (printed p) entry p }
+{}
 
 /// Programs and their texts.
 pub fn worked_programs()

@@ -9,7 +9,7 @@ use Rattle.std.proofs.lemmas.Fmt.{decimal_is_IsNumeral, length-decimal-le}
 use Rattle.std.proofs.Math.Seq.{take-append_seam, take-length, drop-length}
 use Rattle.c_tree.specs.Characters.{is_space_or_tab, is_line_feed, is_digit, is_nondigit, is_name_byte}
 use Rattle.c_tree.specs.Lexing.{line_of, directive_of, after_spaces, word_of, after_word, is_pragma, is_loopbound, operand_of, operand_digits, operand_rest, is_line_end, is_bound_operand, is_bound_line}
-use Rattle.c_print.proofs.Composed.{Pragma, piece_text, IsBoundLine}
+use Rattle.print_laws.proofs.Composed.{Pragma, piece_text, IsBoundLine}
 
 digit_is : (c : ℕ) → digit_value c < 10 → is_digit c ≡ true
 unfolding is_digit

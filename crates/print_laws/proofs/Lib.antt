@@ -1,4 +1,4 @@
-mod Pieces
+pub mod Pieces
 pub mod ExprLayers
 pub mod StmtLayers
 pub mod Composed
@@ -11,3 +11,6 @@ pub mod ApartExpressions
 pub mod LexemesOfPieces
 pub mod BoundLines
 pub mod ExpressionLists
+pub mod Showable
+pub mod ComposedStatements
+pub mod Scoped

@@ -8,12 +8,13 @@ use Rattle.c_tree.specs.declared.program.Program.{Program}
 use Rattle.c_tree.specs.Characters.{is_blank, is_line_feed, is_digit, is_nondigit, is_name_byte, is_sign}
 use Rattle.c_tree.specs.SpelledExpressions as g
 use Rattle.c_tree.specs.SpelledExpressions.{Separated, Expression}
-use Rattle.c_print.specs.PrintedExpressions.{joined, expr_text}
-use Rattle.c_print.proofs.Composed.{Piece, Gap, text_of}
-use Rattle.c_print.proofs.StandingMarks.{comma_stands}
-use Rattle.c_print.proofs.ComposedExpressions.{IsShowable, mark, pieces, pieces_text}
-use Rattle.c_print.proofs.ApartExpressions.{Follows, IsApartBefore, pieces_apart}
-use Rattle.c_print.proofs.SpelledAgain.{lexemes_of, Shows, level_of, looser, spelled}
+use Rattle.print_laws.specs.Shown.{Shows, ShowAll, show_none, show_more}
+use Rattle.print_laws.specs.PrintedExpressions.{joined, expr_text}
+use Rattle.print_laws.proofs.Composed.{Piece, Gap, text_of}
+use Rattle.print_laws.proofs.StandingMarks.{comma_stands}
+use Rattle.print_laws.proofs.ComposedExpressions.{IsShowable, mark, pieces, pieces_text}
+use Rattle.print_laws.proofs.ApartExpressions.{Follows, IsApartBefore, pieces_apart}
+use Rattle.print_laws.proofs.SpelledAgain.{lexemes_of, level_of, looser, spelled}
 
 -- one expression or more
 pub data AreShowable (p : Program) (f : Func) : List Expr → Type 0 where
@@ -48,11 +49,7 @@ list_apart (more d ds) fresh rest behind apart =
     let comma : List Piece = mark (codes ",") ∷ Gap 32 ∷ others in
     pieces_apart d fresh comma (comma_follows (codes " " ++ text_of others)) (comma_stands 32 (text_of others), (refl, list_apart ds false rest behind apart))
 
--- trees show expressions, one by one
-pub data ShowAll (p : Program) (f : Func) : List RawExpr → List Expr → Type 0 where
-  shows_none : ShowAll p f [] []
-  shows_more : {a : RawExpr} {b : Expr} {xs : List RawExpr} {ys : List Expr} → Shows p f a b → ShowAll p f xs ys → ShowAll p f (a ∷ xs) (b ∷ ys)
-
+-- the pieces from a place on are these expressions with commas between, and then the rest
 pub record AreSpelled (p : Program) (f : Func) (at : ℕ) (ps rest : List Piece) (es : List Expr) : Type 0 where
   pub to : ℕ
   pub raws : List RawExpr
@@ -63,8 +60,8 @@ pub list_spelled : {p : Program} {f : Func} {es : List Expr} (ds : AreShowable p
 unfolding list_pieces
 list_spelled (one {a = a} d) at rest =
     let x = spelled d at rest in
-    record { to = x.to; raws = x.raw ∷ []; spells = g.last (looser (level_of a) 0 (omega arith) x.spells); shows = shows_more x.shows shows_none }
+    record { to = x.to; raws = x.raw ∷ []; spells = g.last (looser (level_of a) 0 (omega arith) x.spells); shows = show_more x.shows show_none }
 list_spelled (more {a = a} d ds) at rest =
     let x = spelled d at (mark (codes ",") ∷ Gap 32 ∷ list_pieces ds rest) in
     let xs = list_spelled ds (x.to + length (codes ",") + length (codes " ")) rest in
-    record { to = xs.to; raws = x.raw ∷ xs.raws; spells = g.comma (looser (level_of a) 0 (omega arith) x.spells) refl xs.spells; shows = shows_more x.shows xs.shows }
+    record { to = xs.to; raws = x.raw ∷ xs.raws; spells = g.comma (looser (level_of a) 0 (omega arith) x.spells) refl xs.spells; shows = show_more x.shows xs.shows }

@@ -12,8 +12,8 @@ use denote.Hole.Carrier.{hidden}
 use Rattle.c_tree.specs.declared.program.Func.{Func}
 use Rattle.c_tree.specs.declared.program.Program.{Program}
 use Rattle.c_tree.specs.SpelledExpressions.{level}
-use Rattle.c_print.specs.PrintedExpressions.{blanked, name_text, type_text, un_text, bin_text, number_text, expr_text, row_text, operand_text}
-use Rattle.c_print.proofs.Pieces.{two, four, five}
+use Rattle.print_laws.specs.PrintedExpressions.{blanked, name_text, type_text, un_text, bin_text, number_text, expr_text, row_text, operand_text}
+use Rattle.print_laws.proofs.Pieces.{two, four, five}
 
 pub text-Num : (p : Program) (f : Func) (t : Ty) (n : ℕ) → expr_text p f (Num t n) ≡ number_text t n
 unfolding expr_text

@@ -14,7 +14,7 @@ use Rattle.c_tree.specs.declared.program.Global.{Global as Outside}
 use Rattle.c_tree.specs.declared.program.Func.{Func}
 use Rattle.c_tree.specs.declared.program.Program.{Program}
 use Rattle.c_tree.specs.Worked.{num, local, sets, declares, returns}
-use Rattle.c_print.specs.PrintedExpressions.{expr_text}
+use Rattle.print_laws.specs.PrintedExpressions.{expr_text}
 
 -- ---- parts
 
