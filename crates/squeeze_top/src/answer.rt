@@ -2,7 +2,6 @@
 
 ghost use Rattle.std.specs.Prelude.{◌≡◌, ◌++◌, IfOk, IfErr, OnOk};
 ghost use Rattle.c_tree.specs.Claims.{AreCostsOf};
-ghost use Rattle.c_tree.specs.WellFormed.{WellFormed};
 ghost use Rattle.squeeze_top.specs.Answers as spec;
 ghost use Rattle.squeeze_top.specs.Tasks.{Suits, Writes};
 

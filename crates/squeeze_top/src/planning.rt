@@ -2,7 +2,6 @@
 
 ghost use Rattle.std.specs.Prelude.{◌≡◌, None, IfOk, IfErr, OnOk};
 ghost use Rattle.c_tree.specs.Claims.{AreCostsOf};
-ghost use Rattle.c_tree.specs.WellFormed.{WellFormed};
 ghost use Rattle.flow_laws.specs.Graphs.{graph};
 ghost use Rattle.flow_graph.specs.Limits.{refusal as plan_refusal};
 ghost use Rattle.flow_graph.specs.Plans.{planned};
@@ -17,7 +16,6 @@ use std::alloc::{AllocError, Global};
 
 /// The plan of a program with its costs.
 pub(crate) fn plan_of(alloc: Global, program: Program, costs: Costs) -> Result<Plan, Halt>
-    requires formed { WellFormed program }
     requires costed { AreCostsOf program costs }
     ensures plan { IfOk result (λ p. p ≡ planned program costs) }
     ensures whole { OnOk result (plan_refusal (graph program) ≡ None) }

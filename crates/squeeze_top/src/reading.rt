@@ -6,7 +6,7 @@ ghost use Rattle.c_tree.specs.declared.unit.Unit.{Unit as Tree};
 ghost use Rattle.c_tree.specs.Heights.{unit_height};
 ghost use Rattle.c_tree.specs.Lexing.{Lexes};
 ghost use Rattle.c_tree.specs.Spelling.{Spells};
-ghost use Rattle.c_tree.specs.WellFormed.{WellFormed};
+ghost use Rattle.c_tree.specs.Checked.{IsSpelled};
 ghost use Rattle.c_parse.specs.Lexeme.{IsWithin};
 ghost use Rattle.squeeze_top.specs.Accepted.{IsRead, IsAccepted};
 ghost use Rattle.squeeze_top.specs.Halts.{IsTextHalt, token_halt, parse_halt, check_halt};
@@ -17,7 +17,6 @@ use c_parse::{ParseFault, one_tree, parse};
 use c_token::{TokenFault, one_reading, tokens};
 use c_tree::{Program, Token, Unit};
 use std::alloc::Global;
-use typed_laws::laws::typed::typed_programs_are_well_formed;
 
 /// A text has at most one unit.
 pub(crate) fn one_unit()
@@ -31,10 +30,8 @@ pub(crate) fn one_unit()
 pub(crate) fn program_of(alloc: Global, text: &[u8], entry: &str) -> Result<Program, Halt>
     requires { length text.now ≤ 1048576 }
     ensures accepted { IfOk result (IsAccepted text.now entry.now) }
-    ensures formed { IfOk result WellFormed }
     ensures halted { IfErr result (λ halt. IsTextHalt halt text.now entry.now) }
 {
-    typed_programs_are_well_formed();
     let unit = unit_of(alloc, text)?;
     match check(alloc, unit, entry) {
         Ok(program) => Ok(program),
@@ -56,6 +53,7 @@ fn check_halt(fault: CheckFault) -> Halt
 fn unit_of(alloc: Global, text: &[u8]) -> Result<Unit, Halt>
     requires { length text.now ≤ 1048576 }
     ensures read { IfOk result (IsRead text.now) }
+    ensures spelled { IfOk result IsSpelled }
     ensures halted { (entry : List ℕ) → IfErr result (λ halt. IsTextHalt halt text.now entry) }
 {
     one_reading();

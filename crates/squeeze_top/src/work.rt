@@ -2,7 +2,6 @@
 
 ghost use Rattle.std.specs.Prelude.{◌≡◌, ◌≤◌, length, IfOk, IfErr};
 ghost use Rattle.wc_outside.specs.Contents.{OnFile};
-ghost use Rattle.c_tree.specs.WellFormed.{WellFormed};
 ghost use Rattle.squeeze_top.specs.Words.{asked};
 ghost use Rattle.squeeze_top.specs.Refusing.{HasProgram, HasInput, HasCosts, IsAnswered};
 ghost use Rattle.squeeze_top.specs.Halts.{IsFileHalt, IsInputHalt, IsHalt, Counts};
@@ -37,7 +36,6 @@ pub(crate) fn answer<S: Shelf>(alloc: Global, job: &Job, shelf: &mut S) -> Resul
 // The program that the job's file has.
 fn read_program<S: Shelf>(alloc: Global, job: &Job, shelf: &mut S) -> Result<Program, Halt>
     ensures accepted { IfOk result (HasProgram (asked job.now) (S.contents shelf.old)) }
-    ensures formed { IfOk result WellFormed }
     ensures halted { IfErr result (λ halt. IsHalt halt (asked job.now) (S.contents shelf.old)) }
     ensures counts { Counts result (S.faults shelf.old) (S.faults shelf.new) }
     ensures same { S.contents shelf.new ≡ S.contents shelf.old }
