@@ -14,3 +14,7 @@ pub mod ExpressionLists
 pub mod Showable
 pub mod ComposedStatements
 pub mod Scoped
+pub mod PieceTexts
+pub mod SimpleTexts
+pub mod StatementTexts
+pub mod ProgramTexts
