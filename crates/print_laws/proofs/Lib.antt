@@ -18,3 +18,9 @@ pub mod PieceTexts
 pub mod SimpleTexts
 pub mod StatementTexts
 pub mod ProgramTexts
+pub mod StandingWords
+pub mod ApartPieces
+pub mod ApartSimple
+pub mod ApartStatements
+pub mod ApartPrograms
+pub mod PrintedTokens
