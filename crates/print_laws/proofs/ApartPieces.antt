@@ -1,5 +1,5 @@
 -- Pieces that stand apart, one before others.
-use Rattle.std.proofs.Common.{◌≡◌, ℕ, zero, suc, ◌^◌, ◌<◌, ◌≤◌, Bool, true, false, List, [], ◌∷◌, ◌++◌, refl, sym, ap, subst, arith}
+use Rattle.std.proofs.Common.{◌≡◌, ℕ, zero, suc, ◌<◌, ◌≤◌, Bool, true, false, List, [], ◌∷◌, ◌++◌, refl, sym, ap, subst, arith}
 use Rattle.std.specs.Prelude.{codes}
 use Rattle.c_tree.specs.declared.tree.Ty.{Ty}
 use Rattle.c_tree.specs.declared.tree.BinOp.{BinOp}
@@ -15,7 +15,7 @@ use Rattle.print_laws.proofs.StandingMarks.{assign_stands, compound_stands}
 use Rattle.print_laws.proofs.StandingWords.{IsKeyword, IsSingle}
 use Rattle.print_laws.proofs.BoundLines.{bound_line}
 use Rattle.print_laws.proofs.ComposedExpressions.{IsIdentifier, limit, IsShowable, mark, word, pieces}
-use Rattle.print_laws.proofs.ApartExpressions.{HasText, Follows, of_follows, of_opens, some_text, blank_follows, name_opens, name_stands, number_opens, constant_stands, has_text, pieces_apart}
+use Rattle.print_laws.proofs.ApartExpressions.{HasText, Follows, of_follows, of_opens, blank_follows, name_opens, name_stands, number_opens, constant_stands, has_text, pieces_apart}
 use Rattle.print_laws.proofs.ExpressionLists.{AreShowable, one, more, list_pieces, list_apart}
 use Rattle.print_laws.proofs.ComposedStatements.{name_piece, number_piece, between, margin_pieces, bound_pieces}
 

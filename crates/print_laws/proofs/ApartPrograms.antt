@@ -6,7 +6,6 @@ use Rattle.std.proofs.lemmas.Bool.Decides.{nat_tests}
 use Rattle.c_tree.specs.declared.tree.Ty.{Ty}
 use Rattle.c_tree.specs.declared.tree.Ty.TheVariants as ty
 use Rattle.c_tree.specs.declared.tree.UnOp.TheVariants as un
-use Rattle.c_tree.specs.declared.token.Kind.TheVariants as kind
 use Rattle.c_tree.specs.declared.program.Local.{Local as Declared}
 use Rattle.c_tree.specs.declared.program.Global.{Global as Outside}
 use Rattle.c_tree.specs.declared.program.Func.{Func}
@@ -14,7 +13,7 @@ use Rattle.c_tree.specs.declared.program.Program.{Program}
 use Rattle.c_tree.specs.Values.{is_of}
 use Rattle.c_tree.specs.WellFormed.{IsLength, HasParams, AreNumbersOf}
 use Rattle.print_laws.specs.PrintedExpressions.{un_text, number_text}
-use Rattle.print_laws.proofs.Composed.{Piece, Gap, text_of, Stands, AreApart}
+use Rattle.print_laws.proofs.Composed.{Piece, text_of, AreApart}
 use Rattle.print_laws.proofs.ComposedExpressions.{IsIdentifier, limit, mark, word}
 use Rattle.print_laws.proofs.ApartExpressions.{some_text, number_opens, unary_mark}
 use Rattle.print_laws.proofs.Showable.{AreNamed, IsShowableFunc, AreShowableFuncs, IsShowableGlobal, AreShowableGlobals, IsShowableProgram}

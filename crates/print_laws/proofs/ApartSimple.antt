@@ -1,6 +1,6 @@
 -- The pieces of a statement of one line stand apart.
-use Rattle.std.proofs.Common.{◌≡◌, ℕ, ◌<◌, ◌≤◌, ◌^◌, Bool, true, List, [], ◌∷◌, sym, subst, arith}
-use Rattle.std.specs.Prelude.{codes, slice_get, Option, Some, None}
+use Rattle.std.proofs.Common.{◌≡◌, ℕ, ◌≤◌, true, List, [], ◌∷◌, sym, subst, arith}
+use Rattle.std.specs.Prelude.{slice_get, Option, Some, None}
 use Rattle.c_tree.specs.declared.tree.Ty.{Ty}
 use Rattle.c_tree.specs.declared.tree.Ty.TheVariants as ty
 use Rattle.c_tree.specs.declared.tree.BinOp.{BinOp}

@@ -1,5 +1,5 @@
 -- The pieces of a statement stand apart.
-use Rattle.std.proofs.Common.{◌≡◌, ℕ, ◌+◌, ◌≤◌, Bool, true, false, List, [], ◌∷◌}
+use Rattle.std.proofs.Common.{ℕ, ◌+◌, ◌≤◌, Bool, List, [], ◌∷◌}
 use Rattle.std.specs.Prelude.{codes}
 use Rattle.c_tree.specs.declared.tree.Stmt.{Stmt, Row_of-Stmt, end_of-Stmt, more_of-Stmt, Held-Stmt-For-1, None', Some'}
 use Rattle.c_tree.specs.declared.tree.Stmt.TheVariants.{Empty, Scalar, Array, Assign, Call, Break, Continue, Return, If', While', Do', For', Group'}
@@ -71,7 +71,7 @@ do_apart n k {e} {xs} few condition list = record { lines = λ rest h. with_boun
 for_apart : (n k : ℕ) {i e j xs : List Piece → List Piece} → n ≤ 1048576 → IsPart i → IsPart e → IsPart j → AreLines xs
     → AreLines (λ rest. bound_pieces n (margin_pieces k (word (codes "for") ∷ Gap 32 ∷ mark (codes "(") ∷ i (mark (codes ";") ∷ Gap 32 ∷ e (mark (codes ";") ∷ Gap 32 ∷ j (opening_pieces (xs (closing_pieces k rest))))))))
 for_apart n k few i e j xs = record {
-  lines = λ rest h. with_bound n few (with_margin k (with_head for_word (i.part _ (stop (e.part _ (stop (j.part _ (opening_apart (xs.lines _ (closing_apart k h)))))))))) ;
+  lines = λ rest h. with_bound n few (with_margin k (with_head for_word (i.part _ (stop (e.part _ (stop (j.part _ (opening_apart (xs.lines _ (closing_apart k h))))))))));
 }
   where
     stop : {rest : List Piece} → BehindMark rest → BehindWord (mark (codes ";") ∷ Gap 32 ∷ rest)
@@ -109,6 +109,7 @@ simple_stmt p f k s d = simple_line k {inner = simple_pieces p f s d} (record { 
 
 mutual
   unfolding IsShowableStmt IsShowableRow stmt_pieces row_pieces else_pieces
+
   pub stmt_apart : (p : Program) (f : Func) (k : ℕ) (s : Stmt) (d : IsShowableStmt p f s) → AreLines (stmt_pieces p f k s d)
   stmt_apart p f k (If' e m xs n ys) d = if_apart k (expression_part d.0) (row_apart p f (k + 1) xs d.1) (else_apart p f k ys d.2)
   stmt_apart p f k (While' n e m xs) d = while_apart n k d.0 (expression_part d.1) (row_apart p f (k + 1) xs d.2)

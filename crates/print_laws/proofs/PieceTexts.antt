@@ -1,12 +1,9 @@
 -- What pieces put before the text of others.
-use Rattle.std.proofs.Common.{◌≡◌, ℕ, zero, suc, List, [], ◌∷◌, ◌++◌, refl, sym, ◌∙◌, ap, append_assoc, append-nil}
+use Rattle.std.proofs.Common.{◌≡◌, ℕ, zero, suc, List, [], ◌∷◌, ◌++◌, refl, ◌∙◌, ap}
 use Rattle.std.specs.Prelude.{codes}
-use Rattle.c_tree.specs.declared.tree.Ty.TheVariants as ty
-use Rattle.print_laws.specs.PrintedExpressions.{number_text}
 use Rattle.print_laws.specs.PrintedStatements.{margin, line}
 use Rattle.print_laws.proofs.Pieces.{before2}
 use Rattle.print_laws.proofs.Composed.{Piece, Gap, piece_text, text_of}
-use Rattle.print_laws.proofs.ComposedExpressions.{mark}
 use Rattle.print_laws.proofs.ComposedStatements.{margin_pieces, between}
 
 -- the pieces put this text before that of others

@@ -1,10 +1,10 @@
 -- A printed program is the tokens of its pieces.
-use Rattle.std.proofs.Common.{◌≡◌, ℕ, List, [], refl, sym, ap, subst}
+use Rattle.std.proofs.Common.{◌≡◌, [], refl, sym, subst}
 use Rattle.c_tree.specs.declared.program.Program.{Program}
 use Rattle.c_tree.specs.Lexing.{Lexes}
 use Rattle.c_tree.specs.Symbols.{lexemes}
 use Rattle.print_laws.specs.Printed.{printed}
-use Rattle.print_laws.proofs.Composed.{text_of, tokens_of, lexes}
+use Rattle.print_laws.proofs.Composed.{tokens_of, lexes}
 use Rattle.print_laws.proofs.SpelledAgain.{lexemes_of}
 use Rattle.print_laws.proofs.LexemesOfPieces.{lexemes_are}
 use Rattle.print_laws.proofs.Showable.{IsShowableProgram}

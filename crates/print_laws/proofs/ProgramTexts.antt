@@ -9,12 +9,12 @@ use Rattle.c_tree.specs.declared.program.Global.{Global as Outside}
 use Rattle.c_tree.specs.declared.program.Func.{Func}
 use Rattle.c_tree.specs.declared.program.Program.{Program}
 use Rattle.print_laws.specs.PrintedExpressions.{type_text, number_text, value_text, joined}
-use Rattle.print_laws.specs.PrintedStatements.{declared_text, list_text}
+use Rattle.print_laws.specs.PrintedStatements.{list_text}
 use Rattle.print_laws.specs.Printed.{outer_text, initial_text, global_text, result_text, param_text, params_text, head_text, func_text, printed}
-use Rattle.print_laws.proofs.Composed.{Piece, Gap, text_of}
+use Rattle.print_laws.proofs.Composed.{Gap, text_of}
 use Rattle.print_laws.proofs.ComposedExpressions.{mark, word}
 use Rattle.print_laws.proofs.Showable.{IsShowableFunc, AreShowableFuncs, IsShowableProgram}
-use Rattle.print_laws.proofs.ComposedStatements.{name_piece, number_piece, declared_pieces, opening_pieces, result_pieces, more_param_pieces, params_pieces, func_pieces, funcs_pieces, kept_pieces, more_kept_pieces, initial_pieces, outer_pieces, global_pieces, globals_pieces, program_pieces}
+use Rattle.print_laws.proofs.ComposedStatements.{name_piece, number_piece, opening_pieces, result_pieces, more_param_pieces, params_pieces, func_pieces, funcs_pieces, kept_pieces, more_kept_pieces, initial_pieces, outer_pieces, global_pieces, globals_pieces, program_pieces}
 use Rattle.print_laws.proofs.PieceTexts.{Puts, puts_nothing, puts_piece, both, puts_as, between_text}
 use Rattle.print_laws.proofs.SimpleTexts.{declares_text}
 use Rattle.print_laws.proofs.StatementTexts.{stmts_are}

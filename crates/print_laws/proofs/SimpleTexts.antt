@@ -1,5 +1,5 @@
 -- The text of a statement of one line in pieces.
-use Rattle.std.proofs.Common.{◌≡◌, ℕ, List, [], ◌∷◌, ◌++◌, refl, ap, append_assoc, append-nil}
+use Rattle.std.proofs.Common.{◌≡◌, ℕ, List, [], ◌∷◌, ◌++◌, append_assoc, append-nil}
 use Rattle.std.specs.Prelude.{codes, decimal, slice_get, Option, Some, None}
 use Rattle.c_tree.specs.declared.tree.Ty.{Ty}
 use Rattle.c_tree.specs.declared.tree.Ty.TheVariants as ty
@@ -17,11 +17,11 @@ use Rattle.c_tree.specs.declared.program.Program.{Program}
 use Rattle.print_laws.specs.PrintedExpressions.{name_text, type_text, bin_text, number_text, joined, expr_text}
 use Rattle.print_laws.specs.PrintedStatements as spec
 use Rattle.print_laws.specs.PrintedStatements.{length_text, declared_text, local_text, declaration_text, value_part, place_text, assign_text, target_text, func_name, called_text, return_text, simple_text}
-use Rattle.print_laws.proofs.Composed.{Piece, Gap}
+use Rattle.print_laws.proofs.Composed.{Gap}
 use Rattle.print_laws.proofs.ComposedExpressions.{IsShowable, mark, word, pieces, pieces_text}
 use Rattle.print_laws.proofs.ExpressionLists.{AreShowable, list_pieces, list_text}
-use Rattle.print_laws.proofs.Showable.{IsShowableOptional, AreShowableArguments, IsShowablePlace, IsShowableTarget, IsShowableStmt}
-use Rattle.print_laws.proofs.ComposedStatements.{name_piece, number_piece, length_pieces, declared_pieces, local_pieces, declaration_pieces, between, value_pieces, place_pieces, assign_pieces, target_pieces, argument_pieces, called_pieces, return_pieces, simple_pieces}
+use Rattle.print_laws.proofs.Showable.{IsShowableOptional, AreShowableArguments, IsShowablePlace, IsShowableStmt}
+use Rattle.print_laws.proofs.ComposedStatements.{name_piece, number_piece, length_pieces, declared_pieces, local_pieces, declaration_pieces, value_pieces, place_pieces, assign_pieces, target_pieces, argument_pieces, called_pieces, return_pieces, simple_pieces}
 use Rattle.print_laws.proofs.PieceTexts.{Puts, puts_nothing, puts_piece, both, puts_as, between_text}
 
 pub number_is_decimal : (n : ℕ) → number_text ty.Int n ≡ decimal n

@@ -1,17 +1,16 @@
 -- The text of a statement in pieces.
-use Rattle.std.proofs.Common.{◌≡◌, ℕ, ◌+◌, Bool, List, [], ◌∷◌, ◌++◌}
-use Rattle.std.specs.Prelude.{codes, decimal, flat_map}
+use Rattle.std.proofs.Common.{ℕ, ◌+◌, Bool, List, [], ◌∷◌, ◌++◌}
+use Rattle.std.specs.Prelude.{codes}
 use Rattle.c_tree.specs.declared.tree.Stmt.{Stmt, Row_of-Stmt, end_of-Stmt, more_of-Stmt, Held-Stmt-For-1, None', Some'}
 use Rattle.c_tree.specs.declared.tree.Stmt.TheVariants.{Empty, Scalar, Array, Assign, Call, Break, Continue, Return, If', While', Do', For', Group'}
 use Rattle.c_tree.specs.declared.program.Func.{Func}
 use Rattle.c_tree.specs.declared.program.Program.{Program}
 use Rattle.c_tree.specs.WellFormed.{is_initialiser, is_step}
-use Rattle.print_laws.specs.PrintedExpressions.{expr_text}
-use Rattle.print_laws.specs.PrintedStatements.{line, simple_text, bound_text, for_text, stmt_text, row_lines, else_text, held_text, sole_text, stmts_text}
-use Rattle.print_laws.proofs.Composed.{Piece, Gap, Pragma, piece_text}
-use Rattle.print_laws.proofs.ComposedExpressions.{mark, word, pieces}
+use Rattle.print_laws.specs.PrintedStatements.{line, bound_text, for_text, stmt_text, row_lines, else_text, held_text, sole_text, stmts_text}
+use Rattle.print_laws.proofs.Composed.{Piece, Gap, Pragma}
+use Rattle.print_laws.proofs.ComposedExpressions.{mark, word}
 use Rattle.print_laws.proofs.Showable.{IsShowableStmt, IsShowableRow, IsShowableHeld, IsShowableSole, AreShowableStmts}
-use Rattle.print_laws.proofs.ComposedStatements.{margin_pieces, simple_pieces, bound_pieces, opening_pieces, closing_pieces, stmt_pieces, row_pieces, else_pieces, held_pieces, sole_pieces, stmts_pieces}
+use Rattle.print_laws.proofs.ComposedStatements.{margin_pieces, bound_pieces, opening_pieces, closing_pieces, stmt_pieces, row_pieces, else_pieces, held_pieces, sole_pieces, stmts_pieces}
 use Rattle.print_laws.proofs.PieceTexts.{Puts, puts_nothing, puts_piece, both, line_text}
 use Rattle.print_laws.proofs.SimpleTexts.{expression_text, simple_is}
 
@@ -101,6 +100,7 @@ held_is p f sort (Some' m x) d = sole_is p f sort x d
 
 mutual
   unfolding IsShowableStmt IsShowableRow stmt_pieces row_pieces else_pieces stmt_text row_lines else_text
+
   pub stmt_is : (p : Program) (f : Func) (k : ℕ) (s : Stmt) (d : IsShowableStmt p f s) → Puts (stmt_pieces p f k s d) (stmt_text p f k s)
   stmt_is p f k (If' e m xs n ys) d = if_is k (expression_text d.0) (row_is p f (k + 1) xs d.1) (else_is p f k ys d.2)
   stmt_is p f k (While' n e m xs) d = while_is n k (expression_text d.1) (row_is p f (k + 1) xs d.2)
