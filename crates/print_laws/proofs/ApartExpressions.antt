@@ -46,13 +46,13 @@ pub record Opens (text : List ℕ) : Type 0 where
   pub minus : eqb 45 next ≡ false
   pub equals : eqb 61 next ≡ false
 
-some_text : (c : ℕ) (cs : List ℕ) → HasText (c ∷ cs)
+pub some_text : (c : ℕ) (cs : List ℕ) → HasText (c ∷ cs)
 some_text c cs = record { next = c; after = cs; is = refl }
 
 pub of_follows : (text : List ℕ) → Follows text → HasText text
 of_follows text f = record { next = f.next; after = f.after; is = f.is }
 
-of_opens : (text : List ℕ) → Opens text → HasText text
+pub of_opens : (text : List ℕ) → Opens text → HasText text
 of_opens text o = record { next = o.next; after = o.after; is = o.is }
 
 pub blank_follows : (cs : List ℕ) → Follows (32 ∷ cs)
@@ -85,27 +85,27 @@ both_true : (a b : Bool) → (a && b) ≡ true → (a ≡ true) × (b ≡ true)
 both_true true b e = (refl, e)
 both_true false b e = cc
 
-name_opens : (w rest : List ℕ) → IsIdentifier w → Opens (w ++ rest)
+pub name_opens : (w rest : List ℕ) → IsIdentifier w → Opens (w ++ rest)
 unfolding is_name
 name_opens [] rest h = absurd (let bad = h.name in cc)
 name_opens (d ∷ ds) rest h =
     let first = nondigit_opens d (both_true (is_nondigit d) (list_all is_name_byte ds) h.name).0 in
     record { next = d; after = ds ++ rest; is = refl; plus = first.0; minus = first.1.0; equals = first.1.1 }
 
-name_stands : (w rest : List ℕ) → IsIdentifier w → Follows rest → Stands kind.Name w rest
+pub name_stands : (w rest : List ℕ) → IsIdentifier w → Follows rest → Stands kind.Name w rest
 unfolding is_name
 name_stands [] rest h f = absurd (let bad = h.name in cc)
 name_stands (d ∷ ds) rest h f =
     let parts = both_true (is_nondigit d) (list_all is_name_byte ds) h.name in
     subst (λ r. Stands kind.Name (d ∷ ds) r) (sym f.is) (word_stands d ds kind.Name f.next f.after parts.0 parts.1 h.kind_is f.ends.no_name)
 
-number_opens : (t : Ty) (n : ℕ) (rest : List ℕ) → n < limit t → Opens (number_text t n ++ rest)
+pub number_opens : (t : Ty) (n : ℕ) (rest : List ℕ) → n < limit t → Opens (number_text t n ++ rest)
 number_opens t n rest small =
     let number = number_text_is t n small in
     let first = digit_opens number.first number.digit in
     record { next = number.first; after = number.more ++ rest; is = ap (λ w. w ++ rest) number.split; plus = first.0; minus = first.1.0; equals = first.1.1 }
 
-constant_stands : (t : Ty) (n : ℕ) (rest : List ℕ) → n < limit t → Follows rest → Stands (kind.Number (is_unsigned t) n) (number_text t n) rest
+pub constant_stands : (t : Ty) (n : ℕ) (rest : List ℕ) → n < limit t → Follows rest → Stands (kind.Number (is_unsigned t) n) (number_text t n) rest
 constant_stands t n rest small f =
     let number = number_text_is t n small in
     subst (λ w. Stands (kind.Number (is_unsigned t) n) w rest) (sym number.split)
@@ -143,7 +143,7 @@ left_bracket text h = subst (λ r. Stands kind.Mark (codes "[") r) (sym h.is) (l
 right_bracket : (text : List ℕ) → HasText text → Stands kind.Mark (codes "]") text
 right_bracket text h = subst (λ r. Stands kind.Mark (codes "]") r) (sym h.is) (right_bracket_stands h.next h.after)
 
-unary_mark : (o : UnOp) (text : List ℕ) → Opens text → Stands kind.Mark (un_text o) text
+pub unary_mark : (o : UnOp) (text : List ℕ) → Opens text → Stands kind.Mark (un_text o) text
 unary_mark o text h = subst (λ r. Stands kind.Mark (un_text o) r) (sym h.is) (unary_stands o h.next h.after h.plus h.minus h.equals)
 
 -- ---- what an expression begins with

@@ -14,3 +14,13 @@ pub mod ExpressionLists
 pub mod Showable
 pub mod ComposedStatements
 pub mod Scoped
+pub mod PieceTexts
+pub mod SimpleTexts
+pub mod StatementTexts
+pub mod ProgramTexts
+pub mod StandingWords
+pub mod ApartPieces
+pub mod ApartSimple
+pub mod ApartStatements
+pub mod ApartPrograms
+pub mod PrintedTokens

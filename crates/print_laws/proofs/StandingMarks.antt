@@ -8,6 +8,7 @@ use Rattle.c_tree.specs.declared.tree.UnOp.{UnOp}
 use Rattle.c_tree.specs.declared.tree.UnOp.TheVariants as un
 use Rattle.c_tree.specs.Characters.{is_nondigit, is_digit, is_name_byte}
 use Rattle.c_tree.specs.Lexemes.{marks, keywords, is_name, is_number_run, could_be_token, kind_of}
+use Rattle.c_tree.specs.WellFormed.{is_compound}
 use Rattle.c_tree.specs.Lexing.{opens_block_comment, opens_line_comment}
 use Rattle.print_laws.specs.PrintedExpressions.{un_text, bin_text}
 use Rattle.print_laws.proofs.Composed.{Stands}
@@ -89,6 +90,27 @@ binary_stands op.Xor after = mark (codes "^") 32 after refl refl (λ more. refl)
 binary_stands op.Or after = mark (codes "|") 32 after refl refl (λ more. refl) refl refl
 binary_stands op.Both after = mark (codes "&&") 32 after refl refl (λ more. refl) refl refl
 binary_stands op.Either after = mark (codes "||") 32 after refl refl (λ more. refl) refl refl
+
+pub compound_stands : (o : BinOp) (after : List ℕ) → is_compound o ≡ true → Stands Mark (bin_text o ++ codes "=") (32 ∷ after)
+unfolding could_be_token is_name is_number_run marks keywords kind_of opens_block_comment opens_line_comment is_name_byte is_nondigit is_digit bin_text
+compound_stands op.Mul after is = mark (codes "*=") 32 after refl refl (λ more. refl) refl refl
+compound_stands op.Div after is = mark (codes "/=") 32 after refl refl (λ more. refl) refl refl
+compound_stands op.Rem after is = mark (codes "%=") 32 after refl refl (λ more. refl) refl refl
+compound_stands op.Add after is = mark (codes "+=") 32 after refl refl (λ more. refl) refl refl
+compound_stands op.Sub after is = mark (codes "-=") 32 after refl refl (λ more. refl) refl refl
+compound_stands op.Shl after is = mark (codes "<<=") 32 after refl refl (λ more. refl) refl refl
+compound_stands op.Shr after is = mark (codes ">>=") 32 after refl refl (λ more. refl) refl refl
+compound_stands op.Lt after is = absurd (cc)
+compound_stands op.Gt after is = absurd (cc)
+compound_stands op.Le after is = absurd (cc)
+compound_stands op.Ge after is = absurd (cc)
+compound_stands op.Eq after is = absurd (cc)
+compound_stands op.Ne after is = absurd (cc)
+compound_stands op.And after is = mark (codes "&=") 32 after refl refl (λ more. refl) refl refl
+compound_stands op.Xor after is = mark (codes "^=") 32 after refl refl (λ more. refl) refl refl
+compound_stands op.Or after is = mark (codes "|=") 32 after refl refl (λ more. refl) refl refl
+compound_stands op.Both after is = absurd (cc)
+compound_stands op.Either after is = absurd (cc)
 
 -- ---- a unary operator before its operand
 
