@@ -14,3 +14,4 @@ pub mod ExpressionLists
 pub mod Showable
 pub mod ComposedStatements
 pub mod Scoped
+pub mod SpelledParts
