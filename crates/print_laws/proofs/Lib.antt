@@ -15,3 +15,4 @@ pub mod Showable
 pub mod ComposedStatements
 pub mod Scoped
 pub mod SpelledParts
+pub mod SpelledLines
