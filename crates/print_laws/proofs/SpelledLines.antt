@@ -1,7 +1,7 @@
 -- The pieces of a statement of one line spell it.
 use Rattle.std.proofs.Common.{◌≡◌, ℕ, ◌+◌, Bool, true, false, List, [], ◌∷◌, ◌++◌, length, refl, sym, ◌∙◌, ap, subst, arith}
 use Rattle.std.specs.Prelude.{IsTrue, codes, slice_get, Option, Some, None}
-use Rattle.c_tree.specs.declared.tree.Ty.TheVariants as ty
+use Rattle.c_tree.specs.declared.tree.Ty.{Ty}
 use Rattle.c_tree.specs.declared.tree.BinOp.{BinOp}
 use Rattle.c_tree.specs.declared.tree.BinOp.TheVariants as op
 use Rattle.c_tree.specs.declared.tree.Expr.{Expr}
@@ -27,7 +27,7 @@ use Rattle.c_tree.specs.SpelledExpressions.{last}
 use Rattle.c_tree.specs.SpelledStatements as g
 use Rattle.c_tree.specs.SpelledStatements.{Assigned, Assignment, Called, Item, Statement}
 use Rattle.print_laws.specs.Shown.{ShowAll, show_none, ShowsPlace, NamesFunc, ShowsStmt}
-use Rattle.print_laws.specs.PrintedExpressions.{name_text, bin_text}
+use Rattle.print_laws.specs.PrintedExpressions.{name_text, type_text, bin_text}
 use Rattle.print_laws.specs.PrintedStatements.{func_name}
 use Rattle.print_laws.proofs.Composed.{Piece, Gap}
 use Rattle.print_laws.proofs.ComposedExpressions.{IsShowable, mark, word, pieces}
@@ -128,3 +128,65 @@ called_part p f {n} (target.Declare l) es d h k at rest =
           spells = (false, g.declare_call g.absent (type_name d.local.ty _ _) refl refl x.spells refl);
           shows = (_, x.raw.0, x.raw.1, refl, (d.local.ty, _, refl, declares d _), x.shows.0, x.shows.1);
         })
+
+-- ---- declarations
+
+pub scalar_part : (p : Program) (f : Func) {n : ℕ} (h : HasLocal f n None) (b : Option Expr) (d : IsShowableOptional p f b) (at : ℕ) (rest : List Piece)
+    → IsPart IsItem (λ r. ShowsStmt p f r (Scalar n b)) at (declaration_pieces f n (value_pieces p f b d (ended rest))) rest
+unfolding ShowsStmt declared_pieces length_pieces value_pieces
+scalar_part p f {n} h None d at rest =
+    subst (λ ps. IsPart IsItem (λ r. ShowsStmt p f r (Scalar n None)) at ps rest) (sym (declaration_is h (ended rest)))
+    (record {
+          to = _;
+          raw = _;
+          spells = (false, g.declare g.absent (type_name h.local.ty _ _) (last (g.scalar refl)) refl);
+          shows = (h.local.ty, _, None, refl, declares h _, tt);
+        })
+scalar_part p f {n} h (Some b) d at rest =
+    let x = expr_part d _ (ended rest) in
+    subst (λ ps. IsPart IsItem (λ r. ShowsStmt p f r (Scalar n (Some b))) at ps rest) (sym (declaration_is h (between (codes "=") (pieces d (ended rest)))))
+    (record {
+          to = _;
+          raw = _;
+          spells = (false, g.declare g.absent (type_name h.local.ty _ _) (last (g.initialised refl refl x.spells)) refl);
+          shows = (h.local.ty, _, Some x.raw, refl, declares h _, x.shows);
+        })
+
+pub array_part : (p : Program) (f : Func) {n : ℕ} (h : HasArray f n) (bs : List Expr) (d : AreShowable p f bs) (at : ℕ) (rest : List Piece)
+    → IsPart IsItem (λ r. ShowsStmt p f r (Array n bs)) at (declaration_pieces f n (between (codes "=") (mark (codes "{") ∷ list_pieces d (mark (codes "}") ∷ ended rest)))) rest
+unfolding ShowsStmt declared_pieces
+array_part p f {n} h bs d at rest =
+    let listed : List Piece = between (codes "=") (mark (codes "{") ∷ list_pieces d (mark (codes "}") ∷ ended rest)) in
+    let t : Ty = h.local.local.ty in
+    let named : Spot = record { name = h.local.local.name; at = at + length (type_text t) + 1 } in
+    let x = size_part h.size _ listed in
+    let y = values_part d _ (ended rest) in
+    subst (λ ps. IsPart IsItem (λ r. ShowsStmt p f r (Array n bs)) at ps rest) (sym (declaration_is h.local listed))
+    (record {
+          to = _;
+          raw = _;
+          spells = (false, g.declare g.absent (type_name t _ _) (last (g.filled refl x.spells refl y.spells)) refl);
+          shows = (t, named, h.size, x.shows.0, y.raw, ap (λ a. raw.Declare false t named (shape.Array a (Some y.raw))) x.shows.1, declares h.local named.at, y.shows);
+        })
+
+-- ---- statements of a word
+
+pub empty_part : (p : Program) (f : Func) (at : ℕ) (rest : List Piece) → IsPart IsItem (λ r. ShowsStmt p f r Empty) at (ended rest) rest
+unfolding ShowsStmt
+empty_part p f at rest = record { to = _; raw = _; spells = (false, g.item (g.empty refl)); shows = refl }
+
+pub break_part : (p : Program) (f : Func) (at : ℕ) (rest : List Piece) → IsPart IsItem (λ r. ShowsStmt p f r Break) at (word (codes "break") ∷ ended rest) rest
+unfolding ShowsStmt
+break_part p f at rest = record { to = _; raw = _; spells = (false, g.item (g.break refl refl)); shows = (_, refl) }
+
+pub continue_part : (p : Program) (f : Func) (at : ℕ) (rest : List Piece) → IsPart IsItem (λ r. ShowsStmt p f r Continue) at (word (codes "continue") ∷ ended rest) rest
+unfolding ShowsStmt
+continue_part p f at rest = record { to = _; raw = _; spells = (false, g.item (g.continue refl refl)); shows = (_, refl) }
+
+pub return_part : (p : Program) (f : Func) (b : Option Expr) (d : IsShowableOptional p f b) (at : ℕ) (rest : List Piece)
+    → IsPart IsItem (λ r. ShowsStmt p f r (Return b)) at (return_pieces p f b d (ended rest)) rest
+unfolding ShowsStmt return_pieces
+return_part p f None d at rest = record { to = _; raw = _; spells = (false, g.item (g.return_nothing refl refl)); shows = (_, None, refl, tt) }
+return_part p f (Some b) d at rest =
+    let x = expr_part d _ (ended rest) in
+    record { to = _; raw = _; spells = (false, g.item (g.return_value refl x.spells refl)); shows = (_, Some x.raw, refl, x.shows) }
