@@ -16,3 +16,4 @@ pub mod ComposedStatements
 pub mod Scoped
 pub mod SpelledParts
 pub mod SpelledLines
+pub mod SpelledLoops

@@ -10,10 +10,11 @@ use Rattle.c_tree.specs.declared.program.Program.{Program}
 use Rattle.c_tree.specs.declared.unit.RawExpr.{RawExpr}
 use Rattle.c_tree.specs.declared.unit.RawExpr.TheVariants as e
 use Rattle.c_tree.specs.declared.unit.RawStmt.{RawStmt}
+use Rattle.c_tree.specs.declared.unit.RawStmt.TheVariants as stmt
 use Rattle.c_tree.specs.Naming.{local_of}
 use Rattle.c_tree.specs.Symbols.{Lexeme}
 use Rattle.c_tree.specs.SpelledExpressions.{Separated, Expression, number}
-use Rattle.c_tree.specs.SpelledStatements.{Size, sized, Values, values, Body, Statement, compound, Statements}
+use Rattle.c_tree.specs.SpelledStatements.{Size, sized, Values, values, Body, Item, Statement, compound, group, Statements}
 use Rattle.print_laws.specs.Shown.{Shows, ShowAll, ShowsLength, DeclaresLocal}
 use Rattle.print_laws.proofs.Composed.{Piece, Gap}
 use Rattle.print_laws.proofs.ComposedExpressions.{IsShowable, mark, pieces}
@@ -51,15 +52,25 @@ behind_margin {Phrase = Phrase} k at ps rest h =
     let x = h m.to in
     record { to = x.to; raw = x.raw; spells = subst (λ ts. Phrase ts x.raw (lexemes_of x.to rest)) (sym m.is) x.spells; shows = x.shows }
 
--- a list in braces, of which the second stands behind a margin
-pub braced : {Shown : List RawStmt → Type 0} (k at : ℕ) (ps rest : List Piece)
-    → ((from : ℕ) → IsPart Statements Shown from ps (margin_pieces k (mark (codes "}") ∷ rest)))
-    → IsPart (Statement Body false) Shown at (mark (codes "{") ∷ Gap 10 ∷ ps) rest
-braced k at ps rest h =
+-- the pieces of a list of statements spell it, wherever they stand
+abbrev pub AreInner : (List RawStmt → Type 0) → (List Piece → List Piece) → Type 0
+AreInner Shown inner = (at : ℕ) (rest : List Piece) → IsPart Statements Shown at (inner rest) rest
+
+-- a list in braces as a body and as a statement
+pub record IsBraced (ts : List Lexeme) (xs : List RawStmt) (rest : List Lexeme) : Type 0 where
+  pub body : Statement Body false ts xs rest
+  pub group : Statement Item false ts (stmt.Group xs ∷ []) rest
+
+-- a list is spelled in braces, of which the second stands behind a margin
+pub braced : {Shown : List RawStmt → Type 0} {inner : List Piece → List Piece} (k at : ℕ) (rest : List Piece) → AreInner Shown inner
+    → IsPart IsBraced Shown at (mark (codes "{") ∷ Gap 10 ∷ inner (margin_pieces k (mark (codes "}") ∷ rest))) rest
+braced {inner = inner} k at rest h =
     let from : ℕ = at + 1 + 1 in
-    let x = h from in
+    let ps : List Piece = inner (margin_pieces k (mark (codes "}") ∷ rest)) in
+    let x = h from (margin_pieces k (mark (codes "}") ∷ rest)) in
     let m = margin_passed k x.to (mark (codes "}") ∷ rest) in
-    record { to = _; raw = x.raw; spells = compound refl (subst (λ ts. Statements (lexemes_of from ps) x.raw ts) m.is x.spells) refl; shows = x.shows }
+    let list = subst (λ ts. Statements (lexemes_of from ps) x.raw ts) m.is x.spells in
+    record { to = _; raw = x.raw; spells = record { body = compound refl list refl; group = group refl list refl }; shows = x.shows }
 
 -- ---- expressions
 
