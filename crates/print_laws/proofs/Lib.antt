@@ -17,3 +17,4 @@ pub mod Scoped
 pub mod SpelledParts
 pub mod SpelledLines
 pub mod SpelledLoops
+pub mod SpelledStatementsAgain
