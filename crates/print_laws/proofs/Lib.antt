@@ -18,3 +18,6 @@ pub mod SpelledParts
 pub mod SpelledLines
 pub mod SpelledLoops
 pub mod SpelledStatementsAgain
+pub mod SpelledFunctions
+pub mod SpelledGlobals
+pub mod SpelledPrograms
