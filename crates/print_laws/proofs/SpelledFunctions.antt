@@ -1,12 +1,11 @@
 -- The pieces of a function spell it.
-use Rattle.std.proofs.Common.{◌≡◌, ℕ, zero, suc, ◌+◌, false, List, [], ◌∷◌, length, map, take, refl, sym, ◌∙◌, ap, subst, arith}
+use Rattle.std.proofs.Common.{◌≡◌, ℕ, zero, suc, false, List, [], ◌∷◌, length, map, take, refl, sym, ◌∙◌, ap, subst}
 use Rattle.std.specs.Prelude.{codes, Option, Some, None}
 use Rattle.std.proofs.lemmas.List.{length-map}
 use Rattle.c_tree.specs.declared.tree.Ty.{Ty}
 use Rattle.c_tree.specs.declared.program.Local.{Local as Declared}
 use Rattle.c_tree.specs.declared.program.Func.{Func}
 use Rattle.c_tree.specs.declared.program.Program.{Program}
-use Rattle.c_tree.specs.declared.unit.RawParam.{RawParam}
 use Rattle.c_tree.specs.declared.unit.RawFunc.{RawFunc}
 use Rattle.c_tree.specs.declared.unit.RawTop.TheVariants as top
 use Rattle.c_tree.specs.Naming.{local_of}
@@ -32,6 +31,7 @@ unfolding result_pieces
 result_part None at rest = record { to = _; raw = None; spells = g.nothing refl; shows = refl }
 result_part (Some t) at rest = record { to = _; raw = Some t; spells = g.typed (type_name t _ _); shows = refl }
 
+-- none of them has a length
 abbrev AreScalars : List Declared → Type 0
 AreScalars [] = Unit {0}
 AreScalars (l ∷ ls) = (l.length ≡ None) × AreScalars ls
@@ -73,6 +73,7 @@ params_part (l ∷ ls) h at rest =
 
 -- ---- functions
 
+-- a function at file scope
 abbrev IsFunc : List Lexeme → RawFunc → List Lexeme → Type 0
 IsFunc ts h rest = Top ts (top.Func h ∷ []) rest
 

@@ -4,7 +4,6 @@ use Rattle.std.specs.Prelude.{IsTrue, codes, if◌then◌else◌, ◌==◌, Opti
 use Rattle.c_tree.specs.declared.tree.Ty.{Ty}
 use Rattle.c_tree.specs.declared.tree.Ty.TheVariants as ty
 use Rattle.c_tree.specs.declared.tree.UnOp.TheVariants as un
-use Rattle.c_tree.specs.declared.token.Kind.TheVariants as kind
 use Rattle.c_tree.specs.declared.program.Global.{Global as Outside}
 use Rattle.c_tree.specs.declared.unit.Spot.{Spot}
 use Rattle.c_tree.specs.declared.unit.RawExpr.{RawExpr}
@@ -13,18 +12,18 @@ use Rattle.c_tree.specs.declared.unit.RawShape.{RawShape}
 use Rattle.c_tree.specs.declared.unit.RawShape.TheVariants as shape
 use Rattle.c_tree.specs.declared.unit.RawTop.{RawTop}
 use Rattle.c_tree.specs.declared.unit.RawTop.TheVariants as top
-use Rattle.c_tree.specs.Symbols.{Lexeme, type_of}
+use Rattle.c_tree.specs.Symbols.{Lexeme}
 use Rattle.c_tree.specs.WellFormed.{outer_has_none}
 use Rattle.c_tree.specs.SpelledExpressions.{Separated, last, comma, int, Expression, number, unary, cast}
 use Rattle.c_tree.specs.SpelledStatements as s
 use Rattle.c_tree.specs.SpelledStatements.{Declarator}
 use Rattle.c_tree.specs.Spelling as g
 use Rattle.c_tree.specs.Spelling.{OuterDeclarator, Top, Tops}
-use Rattle.print_laws.specs.Shown.{ShowsLength, ShowsValue, ShowValues, ShowsInitial, ShowsDeclaration, ShowsGlobal, ShowsGlobals}
-use Rattle.print_laws.proofs.Composed.{Piece, Gap}
-use Rattle.print_laws.proofs.ComposedExpressions.{is_unsigned, mark, word}
+use Rattle.print_laws.specs.Shown.{ShowsLength, ShowsValue, ShowValues, ShowsInitial, ShowsDeclaration, ShowsGlobals}
+use Rattle.print_laws.proofs.Composed.{Piece}
+use Rattle.print_laws.proofs.ComposedExpressions.{mark, word}
 use Rattle.print_laws.proofs.SpelledAgain.{looser, type_name, number_type}
-use Rattle.print_laws.proofs.Showable.{IsShowableGlobal, AreShowableGlobals}
+use Rattle.print_laws.proofs.Showable.{AreShowableGlobals}
 use Rattle.print_laws.proofs.ComposedStatements.{name_piece, number_piece, length_pieces, declared_pieces, between, kept_pieces, more_kept_pieces, initial_pieces, outer_pieces, global_pieces, globals_pieces}
 use Rattle.print_laws.proofs.SpelledParts.{IsPart, size_part}
 use Rattle.print_laws.proofs.SpelledLines.{ended}
@@ -104,6 +103,7 @@ outer_part t name (Some m) at rest =
 
 -- ---- globals
 
+-- one declaration at file scope
 abbrev IsTop : List Lexeme → RawTop → List Lexeme → Type 0
 IsTop ts r rest = Top ts (r ∷ []) rest
 
@@ -121,11 +121,11 @@ declaration_part true x few outside at rest =
     let shown : List ℤ → List Piece = λ zs. outer_pieces true (declared_pieces x.ty x.name x.length (initial_pieces x.ty x.length zs (ended rest))) in
     subst (λ zs. IsPart IsTop (λ r. ShowsDeclaration true r x) at (shown zs) rest) (sym none)
     (record {
-          to = _;
-          raw = y.raw;
-          spells = g.outer refl s.absent (type_name x.ty _ _) (last y.spells) refl;
-          shows = (y.shows.0, y.shows.1, y.shows.2, y.shows.3, y.shows.4, none);
-        })
+      to = _;
+      raw = y.raw;
+      spells = g.outer refl s.absent (type_name x.ty _ _) (last y.spells) refl;
+      shows = (y.shows.0, y.shows.1, y.shows.2, y.shows.3, y.shows.4, none);
+    })
 declaration_part false x few outside at rest =
     let y = declarator_part (top.Global false false x.ty) x.ty x.name x.length x.values few _ (ended rest) in
     record { to = _; raw = y.raw; spells = g.global s.absent s.absent (type_name x.ty _ _) (last y.spells) refl; shows = y.shows }

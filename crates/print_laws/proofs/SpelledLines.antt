@@ -1,5 +1,5 @@
 -- The pieces of a statement of one line spell it.
-use Rattle.std.proofs.Common.{◌≡◌, ℕ, ◌+◌, Bool, true, false, List, [], ◌∷◌, ◌++◌, length, refl, sym, ◌∙◌, ap, subst, arith}
+use Rattle.std.proofs.Common.{◌≡◌, ℕ, ◌+◌, Bool, false, List, [], ◌∷◌, ◌++◌, length, refl, sym, ap, subst}
 use Rattle.std.specs.Prelude.{IsTrue, codes, slice_get, Option, Some, None}
 use Rattle.c_tree.specs.declared.tree.Ty.{Ty}
 use Rattle.c_tree.specs.declared.tree.BinOp.{BinOp}
@@ -15,8 +15,6 @@ use Rattle.c_tree.specs.declared.program.Func.{Func}
 use Rattle.c_tree.specs.declared.program.Program.{Program}
 use Rattle.c_tree.specs.declared.unit.Spot.{Spot}
 use Rattle.c_tree.specs.declared.unit.RawExpr.{RawExpr}
-use Rattle.c_tree.specs.declared.unit.RawPlace.TheVariants as raw_place
-use Rattle.c_tree.specs.declared.unit.RawTarget.TheVariants as raw_target
 use Rattle.c_tree.specs.declared.unit.RawShape.TheVariants as shape
 use Rattle.c_tree.specs.declared.unit.RawStmt.{RawStmt}
 use Rattle.c_tree.specs.declared.unit.RawStmt.TheVariants as raw
@@ -27,7 +25,7 @@ use Rattle.c_tree.specs.SpelledExpressions.{last}
 use Rattle.c_tree.specs.SpelledStatements as g
 use Rattle.c_tree.specs.SpelledStatements.{Assigned, Assignment, Called, Item, Statement}
 use Rattle.print_laws.specs.Shown.{ShowAll, show_none, ShowsPlace, NamesFunc, ShowsStmt}
-use Rattle.print_laws.specs.PrintedExpressions.{name_text, type_text, bin_text}
+use Rattle.print_laws.specs.PrintedExpressions.{type_text, bin_text}
 use Rattle.print_laws.specs.PrintedStatements.{func_name}
 use Rattle.print_laws.proofs.Composed.{Piece, Gap}
 use Rattle.print_laws.proofs.ComposedExpressions.{IsShowable, mark, word, pieces}
@@ -123,11 +121,11 @@ called_part p f {n} (target.Declare l) es d h k at rest =
     let x = call_part p f h es k _ (ended rest) in
     subst (λ ps. IsPart IsItem (λ r. ShowsStmt p f r (Call (target.Declare l) n es)) at ps rest) (sym (declaration_is d (between (codes "=") called)))
     (record {
-          to = _;
-          raw = _;
-          spells = (false, g.declare_call g.absent (type_name d.local.ty _ _) refl refl x.spells refl);
-          shows = (_, x.raw.0, x.raw.1, refl, (d.local.ty, _, refl, declares d _), x.shows.0, x.shows.1);
-        })
+      to = _;
+      raw = _;
+      spells = (false, g.declare_call g.absent (type_name d.local.ty _ _) refl refl x.spells refl);
+      shows = (_, x.raw.0, x.raw.1, refl, (d.local.ty, _, refl, declares d _), x.shows.0, x.shows.1);
+    })
 
 -- ---- declarations
 
@@ -137,20 +135,20 @@ unfolding ShowsStmt declared_pieces length_pieces value_pieces
 scalar_part p f {n} h None d at rest =
     subst (λ ps. IsPart IsItem (λ r. ShowsStmt p f r (Scalar n None)) at ps rest) (sym (declaration_is h (ended rest)))
     (record {
-          to = _;
-          raw = _;
-          spells = (false, g.declare g.absent (type_name h.local.ty _ _) (last (g.scalar refl)) refl);
-          shows = (h.local.ty, _, None, refl, declares h _, tt);
-        })
+      to = _;
+      raw = _;
+      spells = (false, g.declare g.absent (type_name h.local.ty _ _) (last (g.scalar refl)) refl);
+      shows = (h.local.ty, _, None, refl, declares h _, tt);
+    })
 scalar_part p f {n} h (Some b) d at rest =
     let x = expr_part d _ (ended rest) in
     subst (λ ps. IsPart IsItem (λ r. ShowsStmt p f r (Scalar n (Some b))) at ps rest) (sym (declaration_is h (between (codes "=") (pieces d (ended rest)))))
     (record {
-          to = _;
-          raw = _;
-          spells = (false, g.declare g.absent (type_name h.local.ty _ _) (last (g.initialised refl refl x.spells)) refl);
-          shows = (h.local.ty, _, Some x.raw, refl, declares h _, x.shows);
-        })
+      to = _;
+      raw = _;
+      spells = (false, g.declare g.absent (type_name h.local.ty _ _) (last (g.initialised refl refl x.spells)) refl);
+      shows = (h.local.ty, _, Some x.raw, refl, declares h _, x.shows);
+    })
 
 pub array_part : (p : Program) (f : Func) {n : ℕ} (h : HasArray f n) (bs : List Expr) (d : AreShowable p f bs) (at : ℕ) (rest : List Piece)
     → IsPart IsItem (λ r. ShowsStmt p f r (Array n bs)) at (declaration_pieces f n (between (codes "=") (mark (codes "{") ∷ list_pieces d (mark (codes "}") ∷ ended rest)))) rest
@@ -163,11 +161,11 @@ array_part p f {n} h bs d at rest =
     let y = values_part d _ (ended rest) in
     subst (λ ps. IsPart IsItem (λ r. ShowsStmt p f r (Array n bs)) at ps rest) (sym (declaration_is h.local listed))
     (record {
-          to = _;
-          raw = _;
-          spells = (false, g.declare g.absent (type_name t _ _) (last (g.filled refl x.spells refl y.spells)) refl);
-          shows = (t, named, h.size, x.shows.0, y.raw, ap (λ a. raw.Declare false t named (shape.Array a (Some y.raw))) x.shows.1, declares h.local named.at, y.shows);
-        })
+      to = _;
+      raw = _;
+      spells = (false, g.declare g.absent (type_name t _ _) (last (g.filled refl x.spells refl y.spells)) refl);
+      shows = (t, named, h.size, x.shows.0, y.raw, ap (λ a. raw.Declare false t named (shape.Array a (Some y.raw))) x.shows.1, declares h.local named.at, y.shows);
+    })
 
 -- ---- statements of a word
 

@@ -1,19 +1,14 @@
 -- The pieces of what stands in statements spell it: margins, lists in braces, expressions, and what a declaration declares.
-use Rattle.std.proofs.Common.{◌≡◌, ℕ, zero, suc, ◌+◌, ◌≤◌, Bool, true, false, List, [], ◌∷◌, ◌++◌, length, refl, sym, ◌∙◌, ap, subst, arith}
-use Rattle.std.specs.Prelude.{codes, slice_get, Option, Some, None}
-use Rattle.c_tree.specs.declared.tree.Ty.{Ty}
-use Rattle.c_tree.specs.declared.tree.Ty.TheVariants as ty
+use Rattle.std.proofs.Common.{◌≡◌, ℕ, zero, suc, ◌+◌, false, List, [], ◌∷◌, length, refl, sym, ◌∙◌, ap, subst, arith}
+use Rattle.std.specs.Prelude.{codes, Option, Some}
 use Rattle.c_tree.specs.declared.tree.Expr.{Expr}
-use Rattle.c_tree.specs.declared.token.Kind.TheVariants as kind
 use Rattle.c_tree.specs.declared.program.Func.{Func}
 use Rattle.c_tree.specs.declared.program.Program.{Program}
-use Rattle.c_tree.specs.declared.unit.RawExpr.{RawExpr}
-use Rattle.c_tree.specs.declared.unit.RawExpr.TheVariants as e
 use Rattle.c_tree.specs.declared.unit.RawStmt.{RawStmt}
 use Rattle.c_tree.specs.declared.unit.RawStmt.TheVariants as stmt
 use Rattle.c_tree.specs.Naming.{local_of}
 use Rattle.c_tree.specs.Symbols.{Lexeme}
-use Rattle.c_tree.specs.SpelledExpressions.{Separated, Expression, number}
+use Rattle.c_tree.specs.SpelledExpressions.{Expression, number}
 use Rattle.c_tree.specs.SpelledStatements.{Size, sized, Values, values, Body, Item, Statement, compound, group, Statements}
 use Rattle.print_laws.specs.Shown.{Shows, ShowAll, ShowsLength, DeclaresLocal}
 use Rattle.print_laws.proofs.Composed.{Piece, Gap}
@@ -21,7 +16,7 @@ use Rattle.print_laws.proofs.ComposedExpressions.{IsShowable, mark, pieces}
 use Rattle.print_laws.proofs.ExpressionLists.{AreShowable, list_pieces, list_spelled}
 use Rattle.print_laws.proofs.SpelledAgain.{lexemes_of, level_of, looser, spelled}
 use Rattle.print_laws.proofs.Showable.{HasLocal}
-use Rattle.print_laws.proofs.ComposedStatements.{margin_pieces, length_pieces, declared_pieces, local_pieces, declaration_pieces, between}
+use Rattle.print_laws.proofs.ComposedStatements.{margin_pieces, length_pieces, declared_pieces, local_pieces, declaration_pieces}
 
 -- the pieces from a place on are a phrase that is read as what is shown, and then the rest
 pub record IsPart {A : Type 0} (Phrase : List Lexeme → A → List Lexeme → Type 0) (Shown : A → Type 0) (at : ℕ) (ps rest : List Piece) : Type 0 where

@@ -1,5 +1,5 @@
 -- The pieces of a program spell a tree that shows it.
-use Rattle.std.proofs.Common.{◌≡◌, ℕ, List, [], ◌∷◌, ◌++◌, map, refl, sym, subst, append_assoc}
+use Rattle.std.proofs.Common.{ℕ, List, [], ◌++◌, map, refl, sym, subst, append_assoc}
 use Rattle.c_tree.specs.declared.program.Program.{Program}
 use Rattle.c_tree.specs.declared.unit.RawTop.{RawTop}
 use Rattle.c_tree.specs.declared.unit.RawTop.TheVariants as top
@@ -18,9 +18,10 @@ pub record IsSpelledProgram (p : Program) (d : IsShowableProgram p) : Type 0 whe
   pub spells : Tops (lexemes_of 0 (program_pieces p d)) tops []
   pub shows : (end : ℕ) → ShowsProgram (record { tops = tops; end = end }) p
 
+-- tops behind tops
 tops_behind : {ts us rest : List Lexeme} {xs ys : List RawTop} → Tops ts xs us → Tops us ys rest → Tops ts (xs ++ ys) rest
 tops_behind none ys = ys
-tops_behind {ts} {us} {rest} {ys = ys} (more {xs = xs} {ys = zs} d ds) after =
+tops_behind {ts} {rest = rest} {ys = ys} (more {xs = xs} {ys = zs} d ds) after =
     subst (λ all. Tops ts all rest) (sym (append_assoc xs zs ys)) (more d (tops_behind ds after))
 
 pub program_spelled : (p : Program) (d : IsShowableProgram p) → IsSpelledProgram p d

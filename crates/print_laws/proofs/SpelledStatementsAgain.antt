@@ -1,5 +1,5 @@
 -- The pieces of a statement spell it.
-use Rattle.std.proofs.Common.{◌≡◌, ℕ, ◌+◌, Bool, true, false, List, [], ◌∷◌, refl}
+use Rattle.std.proofs.Common.{◌≡◌, ℕ, ◌+◌, true, false, List, [], ◌∷◌, refl}
 use Rattle.std.specs.Prelude.{codes, Option}
 use Rattle.c_tree.specs.declared.tree.BinOp.{BinOp}
 use Rattle.c_tree.specs.declared.tree.Expr.{Expr}
@@ -12,7 +12,6 @@ use Rattle.c_tree.specs.declared.unit.RawExpr.{RawExpr}
 use Rattle.c_tree.specs.declared.unit.RawStmt.{RawStmt}
 use Rattle.c_tree.specs.declared.unit.RawStmt.TheVariants as raw
 use Rattle.c_tree.specs.SpelledStatements as g
-use Rattle.c_tree.specs.SpelledStatements.{Statements}
 use Rattle.print_laws.specs.Shown.{Shows, ShowsStmt, ShowsRow, ShowsStmts}
 use Rattle.print_laws.proofs.Composed.{Piece, Gap}
 use Rattle.print_laws.proofs.ComposedExpressions.{IsShowable, mark, word, pieces}
@@ -23,10 +22,10 @@ use Rattle.print_laws.proofs.SpelledLines.{IsItem, ended, assign_part, called_pa
 use Rattle.print_laws.proofs.SpelledLoops.{while_part, do_part, for_part}
 
 -- an assignment with its semicolon
-assigned_part : (p : Program) (f : Func) (k : ℕ) (v : Place) (o : Option BinOp) (b : Expr) (d : IsShowableStmt p f (Assign v o b)) (at : ℕ) (rest : List Piece)
+assigned_part : (p : Program) (f : Func) (v : Place) (o : Option BinOp) (b : Expr) (d : IsShowableStmt p f (Assign v o b)) (at : ℕ) (rest : List Piece)
     → IsPart IsItem (λ r. ShowsStmt p f r (Assign v o b)) at (simple_pieces p f (Assign v o b) d (ended rest)) rest
 unfolding IsShowableStmt simple_pieces
-assigned_part p f k v o b d at rest =
+assigned_part p f v o b d at rest =
     let x = assign_part p f v o d.0 d.1 d.2 at (ended rest) in
     record { to = _; raw = x.raw; spells = (false, g.item (g.assign x.spells refl)); shows = x.shows }
 
@@ -34,7 +33,7 @@ assigned_part p f k v o b d at rest =
 abbrev ShowsIf : Program → Func → Expr → (List RawStmt → Type 0) → (List RawStmt → Type 0) → RawStmt → Type 0
 ShowsIf p f b Shown Other r = (a : RawExpr) × (xs : List RawStmt) × (ys : List RawStmt) × (r ≡ raw.If a xs ys) × Shows p f a b × Shown xs × Other ys
 
--- an empty second list has no `else`
+-- an `if`, whose second list, where it is empty, has no `else`
 if_part : {m : _} (p : Program) (f : Func) (k : ℕ) {b : Expr} {Shown : List RawStmt → Type 0} (inner : List Piece → List Piece) (d : IsShowable p f b) (ys : Row_of-Stmt m) (h : IsShowableRow p f ys)
     → AreInner Shown inner → AreInner (λ rs. ShowsRow p f rs ys) (row_pieces p f (k + 1) ys h) → (at : ℕ) (rest : List Piece)
     → IsPart IsItem (ShowsIf p f b Shown (λ rs. ShowsRow p f rs ys)) at (word (codes "if") ∷ Gap 32 ∷ mark (codes "(") ∷ pieces d (opening_pieces (inner (else_pieces p f k ys h rest)))) rest
@@ -50,6 +49,7 @@ if_part p f k inner d (more_of-Stmt s ys) h list others at rest =
     let z = braced k _ (Gap 10 ∷ rest) others in
     record { to = _; raw = _; spells = (false, g.item (g.if_else refl refl x.spells refl y.spells.body refl z.spells.body)); shows = (x.raw, y.raw, z.raw, refl, x.shows, y.shows, z.shows) }
 
+-- a list in braces that is a statement
 group_part : (k : ℕ) {Shown : List RawStmt → Type 0} (inner : List Piece → List Piece) → AreInner Shown inner → (at : ℕ) (rest : List Piece)
     → IsPart IsItem (λ r. (xs : List RawStmt) × (r ≡ raw.Group xs) × Shown xs) at (mark (codes "{") ∷ Gap 10 ∷ inner (closing_pieces k rest)) rest
 group_part k inner list at rest =
@@ -65,7 +65,7 @@ mutual
   stmt_spelled p f Empty d k at rest = behind_margin k at (ended rest) rest (λ from. empty_part p f from rest)
   stmt_spelled p f (Scalar n b) d k at rest = behind_margin k at _ rest (λ from. scalar_part p f d.0 b d.1 from rest)
   stmt_spelled p f (Array n bs) d k at rest = behind_margin k at _ rest (λ from. array_part p f d.0 bs d.1 from rest)
-  stmt_spelled p f (Assign v o b) d k at rest = behind_margin k at _ rest (λ from. assigned_part p f k v o b d from rest)
+  stmt_spelled p f (Assign v o b) d k at rest = behind_margin k at _ rest (λ from. assigned_part p f v o b d from rest)
   stmt_spelled p f (Call t n bs) d k at rest = behind_margin k at _ rest (λ from. called_part p f t bs d.0 d.1 d.2 from rest)
   stmt_spelled p f Break d k at rest = behind_margin k at (word (codes "break") ∷ ended rest) rest (λ from. break_part p f from rest)
   stmt_spelled p f Continue d k at rest = behind_margin k at (word (codes "continue") ∷ ended rest) rest (λ from. continue_part p f from rest)
