@@ -24,3 +24,10 @@ pub mod ApartSimple
 pub mod ApartStatements
 pub mod ApartPrograms
 pub mod PrintedTokens
+pub mod SpelledParts
+pub mod SpelledLines
+pub mod SpelledLoops
+pub mod SpelledStatementsAgain
+pub mod SpelledFunctions
+pub mod SpelledGlobals
+pub mod SpelledPrograms

@@ -128,12 +128,12 @@ binary_symbol op.Or = refl
 binary_symbol op.Both = refl
 binary_symbol op.Either = refl
 
-type_name : (t : Ty) (at : ℕ) (rest : List symbols.Lexeme) → TypeName (lexeme_at at kind.Word (type_text t) ∷ rest) t rest
+pub type_name : (t : Ty) (at : ℕ) (rest : List symbols.Lexeme) → TypeName (lexeme_at at kind.Word (type_text t) ∷ rest) t rest
 unfolding type_text
 type_name ty.Int at rest = g.int refl
 type_name ty.Unsigned at rest = g.unsigned refl
 
-number_type : (t : Ty) (n : ℕ) → type_of (kind.Number (is_unsigned t) n) ≡ t
+pub number_type : (t : Ty) (n : ℕ) → type_of (kind.Number (is_unsigned t) n) ≡ t
 number_type ty.Int n = refl
 number_type ty.Unsigned n = refl
 

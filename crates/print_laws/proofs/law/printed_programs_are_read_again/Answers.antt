@@ -1,3 +1,4 @@
+use Rattle.print_laws.proofs.SpelledPrograms.{program_spelled}
 use Rattle.print_laws.proofs.ComposedStatements.{program_pieces}
 use Rattle.print_laws.proofs.Scoped.{AreAgain}
 use Rattle.print_laws.proofs.law.printed_programs_are_read_again.Goals as goal
