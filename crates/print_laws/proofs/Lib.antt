@@ -31,3 +31,4 @@ pub mod SpelledStatementsAgain
 pub mod SpelledFunctions
 pub mod SpelledGlobals
 pub mod SpelledPrograms
+pub mod PrintedPrograms

@@ -1,0 +1,28 @@
+-- A printed program is read again as that program.
+use Rattle.std.proofs.Common.{ℕ, List, [], length, refl, sym, subst}
+use Rattle.c_tree.specs.declared.unit.Unit.{Unit as Tree}
+use Rattle.c_tree.specs.declared.program.Program.{Program}
+use Rattle.c_tree.specs.Checked.{IsSpelled}
+use Rattle.c_tree.specs.Refusals.{Typed}
+use Rattle.c_tree.specs.Spelling.{Tops}
+use Rattle.print_laws.specs.Printed.{printed}
+use Rattle.print_laws.specs.Again.{IsReadAs}
+use Rattle.print_laws.proofs.Composed.{tokens_of}
+use Rattle.print_laws.proofs.ComposedStatements.{program_pieces}
+use Rattle.print_laws.proofs.PrintedTokens.{printed_lexes, printed_lexemes}
+use Rattle.print_laws.proofs.SpelledPrograms.{program_spelled}
+use Rattle.print_laws.proofs.ShowablePrograms.{showable}
+use Rattle.print_laws.proofs.TypedAgain.{typed_again}
+
+pub read_again : (unit : Tree) (entry : List ℕ) (p : Program) → IsSpelled unit → Typed unit entry p → IsReadAs (printed p) entry p
+read_again unit entry p spelled typed =
+    let d = showable unit entry p spelled typed in
+    let y = program_spelled p d in
+    let tree : Tree = record { tops = y.tops; end = length (printed p) } in
+    record {
+      tokens = tokens_of 0 (program_pieces p d);
+      lexed = printed_lexes p d;
+      unit = tree;
+      spelled = record { tops = subst (λ ls. Tops ls y.tops []) (sym (printed_lexemes p d)) y.spells; ends = refl };
+      typed = typed_again unit tree entry p spelled typed (y.shows (length (printed p)));
+    }
