@@ -1,6 +1,10 @@
 //! The text of a program.
 
-ghost use Rattle.std.specs.Prelude.{◌≡◌, ◌++◌, IfOk, OnOk, take, codes, flat_map};
+ghost use Rattle.std.specs.Prelude.{◌≡◌, ◌++◌, ℕ, List, IfOk, OnOk, take, codes, flat_map};
+ghost use Rattle.c_tree.specs.declared.unit.Unit.{Unit as Tree};
+ghost use Rattle.c_tree.specs.Checked.{IsSpelled};
+ghost use Rattle.c_tree.specs.Refusals.{Typed};
+ghost use Rattle.print_laws.specs.Again.{IsReadAs};
 ghost use Rattle.print_laws.specs.PrintedExpressions.{value_text, joined};
 ghost use Rattle.print_laws.specs.PrintedStatements.{list_text};
 ghost use Rattle.print_laws.specs.Printed.{outer_text, initial_text, global_text, result_text, param_text, params_text, head_text, func_text, printed};
@@ -8,13 +12,27 @@ ghost use Rattle.print_laws.specs.Printed.{outer_text, initial_text, global_text
 use crate::parts::{push, push_declared, push_value, type_text};
 use crate::stmts::push_block;
 use c_tree::{Func, Global as Outside, Local, NoMemory, Program, Ty};
+use print_laws::law::printed_programs_are_read_again;
 use std::alloc::Global;
 
 /// The text of a program: one declaration or statement a line in the order of the program, the globals first, four blanks
-/// a level, braces always, and the bound of a loop at the beginning of the line before it. `NoMemory` is want of memory.
-#[tactic(auto, unfolding(print_laws::specs::Printed::printed))]
+/// a level, braces always, and the bound of a loop at the beginning of the line before it. It is read again as this program:
+/// it is tokens that spell a unit, and with each entry with which the program was typed so is this unit.
+///
+/// # Errors
+///
+/// `NoMemory` is want of memory.
 pub fn print(alloc: Global, program: &Program) -> Result<Vec<u8>, NoMemory>
     ensures text { IfOk result (λ t. t.items ≡ printed program.now) }
+    ensures again { (unit : Tree) (entry : List ℕ) → IsSpelled unit → Typed unit entry program.now → IfOk result (λ t. IsReadAs t.items entry program.now) }
+{
+    printed_programs_are_read_again();
+    printed(alloc, program)
+}
+
+#[tactic(auto, unfolding(print_laws::specs::Printed::printed))]
+fn printed(alloc: Global, program: &Program) -> Result<Vec<u8>, NoMemory>
+    ensures { IfOk result (λ t. t.items ≡ printed program.now) }
 {
     let mut text = Vec::new(alloc);
     push_globals(&mut text, program.globals.as_slice())?;
