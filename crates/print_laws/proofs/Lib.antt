@@ -14,3 +14,6 @@ pub mod ExpressionLists
 pub mod Showable
 pub mod ComposedStatements
 pub mod Scoped
+pub mod FaultlessUses
+pub mod ExpressionsAgain
+pub mod ScopesAgain
