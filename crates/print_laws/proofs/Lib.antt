@@ -17,3 +17,5 @@ pub mod Scoped
 pub mod FaultlessUses
 pub mod ExpressionsAgain
 pub mod ScopesAgain
+pub mod NamedScopes
+pub mod LiteralLengths
