@@ -4,7 +4,6 @@ use Rattle.std.specs.List.{flat_map}
 use Rattle.std.specs.Prelude.{not, ◌&&◌, ◌||◌, nat_le, nat_lt, ◌==◌, is_none, if◌then◌else◌}
 use Rattle.std.specs.Option.{option_map_or}
 use Rattle.std.proofs.lemmas.Grind.{flat_map-append}
-use Rattle.c_tree.specs.declared.tree.Ty.{Ty}
 use Rattle.c_tree.specs.declared.tree.Var.{Var}
 use Rattle.c_tree.specs.Scopes.{Entity, Variable, Function}
 use Rattle.c_tree.specs.Uses.{Use, Read, Assigned, Called, Declared, Sized, Returned, Left}
@@ -72,6 +71,8 @@ sized_elsewhere from to n list local h =
     let last : List Refusal = where_true (local && is_none list) NoInit from in
     elsewhere (not (nat_le 1 n && nat_le n 64) || option_map_or (nat_lt n) list false) ArrayLength from to last (where_true (local && is_none list) NoInit to) h (alone (local && is_none list) NoInit from to)
 
-pub called_elsewhere : (from to n g params caller : ℕ) (r : Option Ty) (is_used : Bool) → faults_of (Called from (Some (Function g params r)) n is_used caller) ≡ [] → faults_of (Called to (Some (Function g params r)) n is_used caller) ≡ []
-called_elsewhere from to n g params caller r is_used h =
+pub called_elsewhere : (from to : ℕ) (o : Option Entity) (n : ℕ) (is_used : Bool) (caller : ℕ) → faults_of (Called from o n is_used caller) ≡ [] → faults_of (Called to o n is_used caller) ≡ []
+called_elsewhere from to None n is_used caller h = absurd (cc)
+called_elsewhere from to (Some (Variable v array constant)) n is_used caller h = absurd (cc)
+called_elsewhere from to (Some (Function g params r)) n is_used caller h =
     elsewhere (not (n == params)) Arity from to _ _ h (λ more. elsewhere (is_used && is_none r) NoValue from to _ _ more (λ last. elsewhere (nat_le caller g) LaterCall from to [] [] last (λ e. e)))

@@ -19,3 +19,4 @@ pub mod ExpressionsAgain
 pub mod ScopesAgain
 pub mod NamedScopes
 pub mod LiteralLengths
+pub mod DeclaredAgain

@@ -1,5 +1,6 @@
 use Rattle.print_laws.proofs.ComposedStatements.{program_pieces}
 use Rattle.print_laws.proofs.Scoped.{AreAgain}
+use Rattle.print_laws.proofs.DeclaredAgain.{IsAgain}
 use Rattle.print_laws.proofs.ExpressionsAgain.{shown_again}
 use Rattle.print_laws.proofs.LiteralLengths.{literal_length}
 use Rattle.print_laws.proofs.NamedScopes.{held_named}
