@@ -20,3 +20,4 @@ pub mod ScopesAgain
 pub mod NamedScopes
 pub mod LiteralLengths
 pub mod DeclaredAgain
+pub mod CalledAgain
