@@ -20,4 +20,5 @@ pub mod ScopesAgain
 pub mod NamedScopes
 pub mod LiteralLengths
 pub mod DeclaredAgain
+pub mod AssignedAgain
 pub mod CalledAgain
