@@ -22,3 +22,4 @@ pub mod LiteralLengths
 pub mod DeclaredAgain
 pub mod AssignedAgain
 pub mod CalledAgain
+pub mod BlocksAgain
