@@ -23,3 +23,6 @@ pub mod DeclaredAgain
 pub mod AssignedAgain
 pub mod CalledAgain
 pub mod BlocksAgain
+pub mod RowsAgain
+pub mod StatementsAgain
+pub mod BodiesAgain
