@@ -1,7 +1,6 @@
 -- Assignments and `return` of a printed text are the same as those of the text, and faultless.
-use Rattle.std.proofs.Common.{◌≡◌, ℕ, Bool, true, false, List, [], ◌∷◌, ◌++◌, length, Option, Some, None, refl, sym, ap, ◌∙◌, subst}
-use Rattle.std.specs.Prelude.{is_some, slice_get}
-use Rattle.c_tree.specs.declared.tree.Ty.{Ty}
+use Rattle.std.proofs.Common.{◌≡◌, ℕ, Bool, true, false, List, [], ◌∷◌, ◌++◌, Option, Some, None, refl, sym, ap, ◌∙◌, subst}
+use Rattle.std.specs.Prelude.{is_some}
 use Rattle.c_tree.specs.declared.tree.BinOp.{BinOp}
 use Rattle.c_tree.specs.declared.tree.Var.{Var}
 use Rattle.c_tree.specs.declared.tree.Expr.{Expr}
@@ -14,7 +13,6 @@ use Rattle.c_tree.specs.declared.unit.Spot.{Spot}
 use Rattle.c_tree.specs.declared.unit.RawExpr.{RawExpr}
 use Rattle.c_tree.specs.declared.unit.RawPlace.{RawPlace}
 use Rattle.c_tree.specs.declared.unit.RawPlace.TheVariants as raw_place
-use Rattle.c_tree.specs.declared.unit.RawStmt.{RawStmt}
 use Rattle.c_tree.specs.declared.unit.RawStmt.TheVariants.{Assign, Return}
 use Rattle.c_tree.specs.Scopes.{Variable, Known, entity_of, variable}
 use Rattle.c_tree.specs.Constants.{expr_of}

@@ -1,11 +1,11 @@
 -- A statement of a printed text around others is the same as that of the text, where its parts are.
-use Rattle.std.proofs.Common.{◌≡◌, ℕ, Bool, true, false, List, [], ◌∷◌, ◌++◌, Option, Some, None, refl, sym, ap, ◌∙◌, subst}
+use Rattle.std.proofs.Common.{◌≡◌, ℕ, Bool, true, false, [], ◌++◌, Option, Some, None, refl, sym, ap, ◌∙◌}
 use Rattle.std.specs.Prelude.{not, if◌then◌else◌}
 use mathlib.Core.Former.{Count}
 use Rattle.c_tree.specs.declared.tree.Stmt.TheVariants as stmt
 use Rattle.c_tree.specs.declared.unit.RawBound.{RawBound}
 use Rattle.c_tree.specs.declared.unit.RawExpr.{RawExpr}
-use Rattle.c_tree.specs.declared.unit.RawStmt.{RawStmt, Row_of-RawStmt, Held-RawStmt-For-2}
+use Rattle.c_tree.specs.declared.unit.RawStmt.{Row_of-RawStmt, Held-RawStmt-For-2}
 use Rattle.c_tree.specs.declared.unit.RawStmt.TheVariants.{If', While', Do', For', Group'}
 use Rattle.c_tree.specs.Constants.{expr_of}
 use Rattle.c_tree.specs.Naming.{Scope, is_bound, bound_number, opened, looping, past, stmt_locals, row_locals, held_locals, behind, stmt_of, row_stmts, held_stmt, held_behind}

@@ -1,6 +1,6 @@
 -- A declaration of a printed text declares the same local, and is faultless.
-use Rattle.std.proofs.Common.{◌≡◌, ℕ, ◌+◌, ◌≤◌, Bool, true, false, List, [], ◌∷◌, ◌++◌, length, Option, Some, None, refl, sym, ap, ◌∙◌, subst}
-use Rattle.std.specs.Prelude.{is_some, slice_get, unwrap_or}
+use Rattle.std.proofs.Common.{◌≡◌, ℕ, ◌≤◌, Bool, true, false, List, [], ◌∷◌, length, Option, Some, None, sym, ap, ◌∙◌, subst}
+use Rattle.std.specs.Prelude.{slice_get, unwrap_or}
 use Rattle.c_tree.specs.declared.tree.Ty.{Ty}
 use Rattle.c_tree.specs.declared.tree.Ty.TheVariants as ty
 use Rattle.c_tree.specs.declared.tree.Stmt.TheVariants as stmt
@@ -17,7 +17,7 @@ use Rattle.c_tree.specs.declared.unit.RawStmt.TheVariants.{Declare}
 use Rattle.c_tree.specs.Scopes.{is_known_at}
 use Rattle.c_tree.specs.Constants.{exprs_of, array_length, shape_length}
 use Rattle.c_tree.specs.Naming.{Scope, local_of, declared, optional, declaration, stmt_locals, behind, stmt_of}
-use Rattle.c_tree.specs.Uses.{Use, Declared, Sized, declared_at, sized, optional_uses, exprs_uses, list_uses, length_uses, declarator_uses, stmt_uses}
+use Rattle.c_tree.specs.Uses.{Declared, Sized, declared_at, sized, optional_uses, exprs_uses, length_uses, declarator_uses, stmt_uses}
 use Rattle.c_tree.specs.Refusals.{faults_of}
 use Rattle.typed_laws.proofs.Faultless.{use_clean, all_clean}
 use Rattle.typed_laws.proofs.FormedExpressions.{length_exprs}

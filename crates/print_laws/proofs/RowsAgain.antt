@@ -1,9 +1,8 @@
 -- Rows of statements, parts of a `for`, and statements without parts: they are the same in a printed text as in the text.
-use Rattle.std.proofs.Common.{◌≡◌, ℕ, Bool, List, [], ◌∷◌, ◌++◌, Option, Some, None, refl, sym, ap, ◌∙◌, subst}
+use Rattle.std.proofs.Common.{ℕ, [], ◌∷◌, ◌++◌, Some, refl, sym, ap, ◌∙◌}
 use mathlib.Core.Former.{Count, none_left, one_more}
 use denote.Hole.Carrier.{hidden}
-use Rattle.c_tree.specs.declared.tree.Stmt.TheVariants as stmt
-use Rattle.c_tree.specs.declared.unit.RawStmt.{RawStmt, Row_of-RawStmt, end_of-RawStmt, more_of-RawStmt, Held-RawStmt-For-2, None', Some'}
+use Rattle.c_tree.specs.declared.unit.RawStmt.{RawStmt, Row_of-RawStmt, end_of-RawStmt, more_of-RawStmt, None', Some'}
 use Rattle.c_tree.specs.declared.unit.RawStmt.TheVariants.{Empty, Break, Continue}
 use Rattle.c_tree.specs.declared.unit.RawStmt.TheBlock.{shape-the_row-RawStmt-1, hidden-the_row-RawStmt-1, back-RawStmt-For-2}
 use Rattle.c_tree.specs.Naming.{Scope, stmt_locals, row_locals, held_locals, behind, held_behind, row_behind, stmt_of, row_stmts, held_stmt, sole_stmt}

@@ -1,19 +1,18 @@
 -- What shows a statement of a text is named as that statement, and faultless.
-use Rattle.std.proofs.Common.{◌≡◌, ℕ, Bool, List, [], ◌∷◌, ◌++◌, Option, Some, None, refl, sym, ap, ◌∙◌, subst}
-use Rattle.std.specs.Prelude.{is_some}
+use Rattle.std.proofs.Common.{List, ◌++◌, Option, sym, subst}
 use denote.Hole.Carrier.{hidden}
-use Rattle.c_tree.specs.declared.tree.Stmt.TheBlock.{shape-the_row-Stmt-0, hidden-the_row-Stmt-0, shape-the_row-Stmt-1, hidden-the_row-Stmt-1, back-Stmt-For-1}
+use Rattle.c_tree.specs.declared.tree.Stmt.TheBlock.{hidden-the_row-Stmt-0, hidden-the_row-Stmt-1, back-Stmt-For-1}
 use Rattle.c_tree.specs.declared.program.Func.{Func}
 use Rattle.c_tree.specs.declared.program.Program.{Program}
 use Rattle.c_tree.specs.declared.unit.RawExpr.{RawExpr}
 use Rattle.c_tree.specs.declared.unit.RawStmt.{RawStmt, Row_of-RawStmt, end_of-RawStmt, more_of-RawStmt, Held-RawStmt-For-2, None', Some'}
 use Rattle.c_tree.specs.declared.unit.RawStmt.TheVariants.{Empty, Declare, Assign, Call, Break, Continue, Return, If', While', Do', For', Group'}
-use Rattle.c_tree.specs.declared.unit.RawStmt.TheBlock.{shape-the_row-RawStmt-0, hidden-the_row-RawStmt-0, shape-the_row-RawStmt-1, hidden-the_row-RawStmt-1, back-RawStmt-For-2}
+use Rattle.c_tree.specs.declared.unit.RawStmt.TheBlock.{hidden-the_row-RawStmt-0, hidden-the_row-RawStmt-1, back-RawStmt-For-2}
 use Rattle.c_tree.specs.Constants.{expr_of}
 use Rattle.c_tree.specs.Naming.{Scope, opened, looping, past, stmt_locals, row_locals, held_locals, behind, stmt_of, row_stmts, held_stmt, sole_stmt, held_behind}
 use Rattle.c_tree.specs.Uses.{Looped, expr_uses, stmt_uses, row_stmt_uses, held_uses}
 use Rattle.typed_laws.proofs.Faultless.{use_clean, all_clean}
-use Rattle.print_laws.specs.Shown.{Shows, ShowsStmt, ShowsRow, ShowsHeld, ShowsSole}
+use Rattle.print_laws.specs.Shown.{Shows, ShowsStmt, ShowsRow, ShowsHeld}
 use Rattle.print_laws.proofs.Scoped.{Follows}
 use Rattle.print_laws.proofs.FaultlessUses.{AreFaultless, faultless_parts, faultless_first}
 use Rattle.print_laws.proofs.ExpressionsAgain.{IsExprAgain, expr_seen, shown_again}
@@ -32,7 +31,7 @@ module _ (p : Program) (f : Func) where
       shown_again t.known shows (expr_seen p f s.known t.known h.names follows.sees e (all_clean (expr_uses s.known e) faultless))
 
   mutual
-    unfolding ShowsStmt ShowsRow ShowsHeld ShowsSole stmt_of row_stmts held_stmt sole_stmt stmt_uses row_stmt_uses held_uses stmt_locals row_locals held_locals shape-the_row-Stmt-0 hidden-the_row-Stmt-0 shape-the_row-Stmt-1 hidden-the_row-Stmt-1 shape-the_row-RawStmt-0 hidden-the_row-RawStmt-0 shape-the_row-RawStmt-1 hidden-the_row-RawStmt-1 hidden
+    unfolding ShowsStmt stmt_of stmt_uses stmt_locals hidden-the_row-Stmt-1 hidden-the_row-RawStmt-1 hidden
 
     pub stmt_again : (s t : Scope) (x y : RawStmt) → Follows s t → IsNamed p f s (stmt_locals x) → AreFaultless (stmt_uses s x) → ShowsStmt p f y (stmt_of s x) → IsAgain s t x y
     stmt_again s t Empty y follows h faultless shows = subst (IsAgain s t Empty) (sym shows) (empty_again s t follows)
