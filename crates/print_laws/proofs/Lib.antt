@@ -32,3 +32,15 @@ pub mod SpelledFunctions
 pub mod SpelledGlobals
 pub mod SpelledPrograms
 pub mod PrintedPrograms
+pub mod FaultlessUses
+pub mod ExpressionsAgain
+pub mod ScopesAgain
+pub mod NamedScopes
+pub mod LiteralLengths
+pub mod DeclaredAgain
+pub mod AssignedAgain
+pub mod CalledAgain
+pub mod BlocksAgain
+pub mod RowsAgain
+pub mod StatementsAgain
+pub mod BodiesAgain
