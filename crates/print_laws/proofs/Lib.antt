@@ -24,3 +24,8 @@ pub mod ApartSimple
 pub mod ApartStatements
 pub mod ApartPrograms
 pub mod PrintedTokens
+pub mod NamedTexts
+pub mod NamedExpressions
+pub mod NamedStatements
+pub mod NamedUnits
+pub mod NamedPrograms
