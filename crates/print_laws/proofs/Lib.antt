@@ -29,3 +29,7 @@ pub mod NamedExpressions
 pub mod NamedStatements
 pub mod NamedUnits
 pub mod NamedPrograms
+pub mod NamedVariables
+pub mod ShowableExpressions
+pub mod ShowableStatements
+pub mod ShowablePrograms

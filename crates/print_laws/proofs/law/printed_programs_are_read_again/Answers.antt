@@ -1,6 +1,7 @@
 use Rattle.print_laws.proofs.ComposedStatements.{program_pieces}
 use Rattle.print_laws.proofs.Scoped.{AreAgain}
 use Rattle.print_laws.proofs.NamedPrograms.{funcs_identified}
+use Rattle.print_laws.proofs.ShowablePrograms.{showable}
 use Rattle.print_laws.proofs.law.printed_programs_are_read_again.Goals as goal
 
 pub returns : goal.returns
