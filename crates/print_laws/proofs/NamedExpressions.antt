@@ -1,5 +1,5 @@
 -- What is left of the tokens behind an expression has identifiers for its names, as the tokens have.
-use Rattle.std.proofs.Common.{◌≡◌, ℕ, List, [], ◌∷◌, Option}
+use Rattle.std.proofs.Common.{ℕ, List, [], ◌∷◌, Option}
 use Rattle.c_tree.specs.declared.tree.Ty.{Ty}
 use Rattle.c_tree.specs.declared.unit.RawBound.{RawBound}
 use Rattle.c_tree.specs.declared.unit.RawExpr.{RawExpr}

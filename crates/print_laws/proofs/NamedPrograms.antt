@@ -1,5 +1,5 @@
 -- The names of a program that is typed from a unit of a text are identifiers.
-use Rattle.std.proofs.Common.{ℕ, List, [], ◌∷◌, ◌++◌, sym, subst}
+use Rattle.std.proofs.Common.{List, [], ◌∷◌, sym, subst}
 use Rattle.c_tree.specs.declared.program.Func.{Func}
 use Rattle.c_tree.specs.declared.program.Global.{Global}
 use Rattle.c_tree.specs.declared.unit.RawFunc.{RawFunc}
@@ -13,15 +13,17 @@ use Rattle.print_laws.proofs.Showable.{AreNamed}
 use Rattle.print_laws.proofs.NamedStatements.{named_append}
 use Rattle.print_laws.proofs.NamedUnits.{IsNamedFunc, AreNamedTops}
 
+-- the names of globals are identifiers
 abbrev pub AreNamedGlobals : List Global → Type 0
 AreNamedGlobals [] = Unit {0}
 AreNamedGlobals (g ∷ gs) = IsIdentifier g.name × AreNamedGlobals gs
 
--- the name of a function, and of its parameters and other locals
+-- of a function, and of its parameters and other locals too
 pub record HasNames (f : Func) : Type 0 where
   pub name : IsIdentifier f.name
   pub locals : AreNamed f.locals
 
+-- the same of functions
 abbrev pub HaveNames : List Func → Type 0
 HaveNames [] = Unit {0}
 HaveNames (f ∷ fs) = HasNames f × HaveNames fs

@@ -29,6 +29,7 @@ named_parts : (ls ms : List Local) → AreNamed (ls ++ ms) → AreNamed ls × Ar
 named_parts [] ms h = (tt, h)
 named_parts (l ∷ ls) ms h = let parts = named_parts ls ms h.1 in ((h.0, parts.0), parts.1)
 
+-- the locals of one statement, or of none
 abbrev maybe_locals : Option RawStmt → List Local
 maybe_locals None = []
 maybe_locals (Some x) = stmt_locals x ++ []

@@ -51,6 +51,7 @@ abbrev Spells : Symbol → List ℕ → Type 0
 Spells s.Name bytes = IsIdentifier bytes
 Spells _ bytes = Unit {0}
 
+-- the same of a lexeme, and of each of some
 abbrev pub IsNamed : Lexeme → Type 0
 IsNamed l = Spells l.symbol l.bytes
 
@@ -62,6 +63,7 @@ AllNamed (l ∷ ls) = IsNamed l × AllNamed ls
 pub name_at : (l : Lexeme) → l.symbol ≡ s.Name → IsNamed l → IsIdentifier l.bytes
 name_at l e h = subst (λ (x : Symbol). Spells x l.bytes) e h
 
+-- the entries of a table are no names
 abbrev AreOthers : List Spelled → List ℕ → Type 0
 AreOthers [] bytes = Unit {0}
 AreOthers (entry ∷ rest) bytes = Spells entry.1 bytes × AreOthers rest bytes

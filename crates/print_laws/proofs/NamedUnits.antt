@@ -1,6 +1,5 @@
 -- The names that a unit of a text declares are identifiers: those of its globals and functions, and of their parameters and locals.
-use Rattle.std.proofs.Common.{ℕ, Bool, List, [], ◌∷◌, ◌++◌, Option}
-use Rattle.c_tree.specs.declared.token.Token.{Token}
+use Rattle.std.proofs.Common.{Bool, List, [], ◌∷◌, ◌++◌, Option}
 use Rattle.c_tree.specs.declared.tree.Ty.{Ty}
 use Rattle.c_tree.specs.declared.unit.RawFunc.{RawFunc}
 use Rattle.c_tree.specs.declared.unit.RawParam.{RawParam}

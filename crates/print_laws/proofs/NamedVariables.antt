@@ -22,6 +22,7 @@ pub record IsLocalOf (ls : List Local) (n : ℕ) (x : Shape) : Type 0 where
   pub fits : IsLength local.length
   pub shaped : shape_of local.ty local.length ≡ x
 
+-- a local that has a shape
 pub local_there : (ls : List Local) (n : ℕ) (x : Shape) → AreNamed ls → WellFormedLocals ls → slice_get (local_shapes ls) n ≡ Some x → IsLocalOf ls n x
 local_there [] n x names formed is = absurd (cc)
 local_there (l ∷ ls) zero x names formed is =
@@ -30,6 +31,7 @@ local_there (l ∷ ls) (suc n) x names formed is =
     let rest = local_there ls n x names.1 formed.1 is in
     record { local = rest.local; there = rest.there; named = rest.named; fits = rest.fits; shaped = rest.shaped }
 
+-- a global that has a shape has an identifier for its name
 global_named : (gs : List Global) (n : ℕ) (x : Shape) → AreNamedGlobals gs → slice_get (global_shapes gs) n ≡ Some x → IsIdentifier (global_name (slice_get gs n))
 global_named [] n x names is = absurd (cc)
 global_named (g ∷ gs) zero x names is = names.0
@@ -41,6 +43,7 @@ pub record Stands (p : Program) (f : Func) : Type 0 where
   pub locals : AreNamed f.locals
   pub formed : WellFormedLocals f.locals
 
+-- what the variables of a function of a program are
 abbrev pub layout_of : Program → Func → Layout
 layout_of p f = record { locals = local_shapes f.locals; globals = global_shapes p.globals }
 

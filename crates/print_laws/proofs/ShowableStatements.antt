@@ -1,7 +1,6 @@
 -- A well-formed statement of a function with identifiers for its names is one that a text has.
-use Rattle.std.proofs.Common.{◌≡◌, ◌≤◌, ℕ, zero, suc, Bool, true, false, List, [], ◌∷◌, ◌++◌, length, Option, Some, None, refl, sym, ◌∙◌, ap, subst}
+use Rattle.std.proofs.Common.{◌≡◌, ◌≤◌, ℕ, zero, suc, Bool, true, false, List, [], ◌∷◌, ◌++◌, length, Option, Some, None, refl, ◌∙◌, ap, subst}
 use Rattle.std.specs.Prelude.{IsTrue, is_none, slice_get}
-use Rattle.c_tree.specs.declared.tree.Expr.{Expr}
 use Rattle.c_tree.specs.declared.tree.Place.{Place}
 use Rattle.c_tree.specs.declared.tree.Place.TheVariants as place
 use Rattle.c_tree.specs.declared.tree.Target.{Target}
@@ -27,6 +26,7 @@ front_there [] ys n x is = absurd (cc)
 front_there (z ∷ xs) ys zero x is = is
 front_there (z ∷ xs) ys (suc n) x is = front_there xs ys n x is
 
+-- a function that is there
 func_there : (fs : List Func) (n : ℕ) (f : Func) → HaveNames fs → slice_get fs n ≡ Some f → HasNames f
 func_there [] n f names is = absurd (cc)
 func_there (g ∷ fs) zero f names is = let same : g ≡ f = cc in subst HasNames same names.0
@@ -42,6 +42,7 @@ pub record IsBehind (p : Program) (f : Func) (above : List Func) : Type 0 where
 length_of : {ls : List Local} {n : ℕ} {x : Shape} (l : IsLocalOf ls n x) → l.local.length ≡ x.length
 length_of l = ap (λ (y : Shape). y.length) l.shaped
 
+-- what its statements may name
 abbrev pub context_of : Program → Func → List Func → Context
 context_of p f above = record { layout = layout_of p f; above = above; result = f.result }
 
