@@ -44,3 +44,12 @@ pub mod BlocksAgain
 pub mod RowsAgain
 pub mod StatementsAgain
 pub mod BodiesAgain
+pub mod NamedTexts
+pub mod NamedExpressions
+pub mod NamedStatements
+pub mod NamedUnits
+pub mod NamedPrograms
+pub mod NamedVariables
+pub mod ShowableExpressions
+pub mod ShowableStatements
+pub mod ShowablePrograms
