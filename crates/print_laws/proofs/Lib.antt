@@ -14,3 +14,7 @@ pub mod ExpressionLists
 pub mod Showable
 pub mod ComposedStatements
 pub mod Scoped
+pub mod BodiesAgain
+pub mod DifferentNames
+pub mod KnownNames
+pub mod FilesAgain
