@@ -18,3 +18,4 @@ pub mod BodiesAgain
 pub mod DifferentNames
 pub mod KnownNames
 pub mod FilesAgain
+pub mod PrintedKnown

@@ -1,6 +1,6 @@
 use Rattle.print_laws.proofs.ComposedStatements.{program_pieces}
 use Rattle.print_laws.proofs.BodiesAgain.{body_again}
-use Rattle.print_laws.proofs.FilesAgain.{sees_again}
+use Rattle.print_laws.proofs.PrintedKnown.{printed_has}
 use Rattle.print_laws.proofs.DifferentNames.{same_place}
 use Rattle.print_laws.proofs.Scoped.{AreAgain}
 use Rattle.print_laws.proofs.law.printed_programs_are_read_again.Goals as goal
