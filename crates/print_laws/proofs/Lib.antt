@@ -19,3 +19,9 @@ pub mod DifferentNames
 pub mod KnownNames
 pub mod FilesAgain
 pub mod PrintedKnown
+pub mod FaultlessUses
+pub mod ExpressionsAgain
+pub mod ScopesAgain
+pub mod NamedScopes
+pub mod LiteralLengths
+pub mod DeclaredAgain

@@ -3,16 +3,16 @@ pub mod ShapedLayers
 pub mod ShapedExpressions
 pub mod ShapedStatements
 pub mod ShapedUnits
-mod Faultless
+pub mod Faultless
 mod Standing
-mod FormedExpressions
+pub mod FormedExpressions
 mod Inside
 mod FormedCalls
 mod FormedDeclarations
 mod FormedLoops
 mod FormedStatements
-mod DeclaredLocals
-mod FileScope
+pub mod DeclaredLocals
+pub mod FileScope
 mod SpansOfFunctions
 mod ConstantRanges
 mod FormedGlobals

@@ -1,0 +1,75 @@
+-- A declaration of a printed text declares the same local, and is faultless.
+use Rattle.std.proofs.Common.{◌≡◌, ℕ, ◌+◌, ◌≤◌, Bool, true, false, List, [], ◌∷◌, ◌++◌, length, Option, Some, None, refl, sym, ap, ◌∙◌, subst}
+use Rattle.std.specs.Prelude.{is_some, slice_get, unwrap_or}
+use Rattle.c_tree.specs.declared.tree.Ty.{Ty}
+use Rattle.c_tree.specs.declared.tree.Ty.TheVariants as ty
+use Rattle.c_tree.specs.declared.tree.Stmt.TheVariants as stmt
+use Rattle.c_tree.specs.declared.program.Func.{Func}
+use Rattle.c_tree.specs.declared.program.Local.{Local}
+use Rattle.c_tree.specs.declared.program.Program.{Program}
+use Rattle.c_tree.specs.declared.unit.Spot.{Spot}
+use Rattle.c_tree.specs.declared.unit.RawExpr.{RawExpr}
+use Rattle.c_tree.specs.declared.unit.RawExpr.TheVariants as e
+use Rattle.c_tree.specs.declared.unit.RawShape.{RawShape}
+use Rattle.c_tree.specs.declared.unit.RawShape.TheVariants as shape
+use Rattle.c_tree.specs.declared.unit.RawStmt.{RawStmt}
+use Rattle.c_tree.specs.declared.unit.RawStmt.TheVariants.{Declare}
+use Rattle.c_tree.specs.Scopes.{is_known_at}
+use Rattle.c_tree.specs.Constants.{exprs_of, array_length, shape_length}
+use Rattle.c_tree.specs.Naming.{Scope, local_of, declared, optional, declaration, stmt_locals, behind, stmt_of}
+use Rattle.c_tree.specs.Uses.{Use, Declared, Sized, declared_at, sized, optional_uses, exprs_uses, list_uses, length_uses, declarator_uses, stmt_uses}
+use Rattle.c_tree.specs.Refusals.{faults_of}
+use Rattle.typed_laws.proofs.Faultless.{use_clean, all_clean}
+use Rattle.typed_laws.proofs.FormedExpressions.{length_exprs}
+use Rattle.print_laws.specs.Shown.{ShowAll, ShowsOptional, DeclaresLocal, ShowsStmt}
+use Rattle.print_laws.proofs.Scoped.{Follows}
+use Rattle.print_laws.proofs.FaultlessUses.{AreFaultless, faultless_parts, faultless_both, faultless_first, faultless_more, declared_elsewhere, sized_elsewhere}
+use Rattle.print_laws.proofs.LiteralLengths.{literal_length, literal_faultless}
+use Rattle.print_laws.proofs.ExpressionsAgain.{exprs_seen, all_shown_again, optional_again}
+use Rattle.print_laws.proofs.ScopesAgain.{declared_follows}
+use Rattle.print_laws.proofs.NamedScopes.{IsNamed, next_local, declared_named}
+
+-- a statement of a printed text is the same as that of the text, and faultless
+pub record IsAgain (s t : Scope) (x y : RawStmt) : Type 0 where
+  pub stmt : stmt_of t y ≡ stmt_of s x
+  pub locals : stmt_locals y ≡ stmt_locals x
+  pub follows : Follows (behind s x) (behind t y)
+  pub faultless : AreFaultless (stmt_uses t y)
+
+-- a name is new to its scope in both
+pub declared_once : (s t : Scope) (x y : Spot) → Follows s t → y.name ≡ x.name → faults_of (declared_at s.known s.depth x) ≡ [] → faults_of (declared_at t.known t.depth y) ≡ []
+declared_once s t x y follows named h =
+    let same : is_known_at t.known t.depth y.name ≡ is_known_at s.known s.depth x.name = (λ i. is_known_at t.known (follows.depth i) (named i)) ∙ follows.alike s.depth x.name follows.inner in
+    ap (λ b. faults_of (Declared y.at b)) same ∙ declared_elsewhere x.at y.at (is_known_at s.known s.depth x.name) h
+
+one_local : (o : Option Local) (k l : Local) → o ≡ Some k → o ≡ Some l → k ≡ l
+one_local o k l h g = cc
+
+module _ (p : Program) (f : Func) where
+  -- what is printed of the next local is the local
+  pub same_local : (s : Scope) (t z : Ty) (x y : Spot) (m n : Option ℕ) (ms : List Local) → IsNamed p f s (local_of t x.name n ∷ ms) → DeclaresLocal f (length s.locals) z y m → local_of z y.name m ≡ local_of t x.name n
+  same_local s t z x y m n ms h shown =
+      one_local (slice_get f.locals (length s.locals)) (local_of z y.name m) (local_of t x.name n) shown.local (next_local p f s (local_of t x.name n) ms h)
+
+  pub scalar_again : (s t : Scope) (constant : Bool) (u z : Ty) (x y : Spot) (b a : Option RawExpr) → Follows s t → IsNamed p f s (local_of u x.name None ∷ []) → AreFaultless (declarator_uses s constant u x (shape.Scalar b))
+      → DeclaresLocal f (length s.locals) z y None → ShowsOptional p f a (optional (declared s constant u x.name None).known b) → IsAgain s t (Declare constant u x (shape.Scalar b)) (Declare false z y (shape.Scalar a))
+  unfolding stmt_of stmt_locals stmt_uses behind
+  scalar_again s t constant u z x y b a follows h faultless shown shows =
+      let same = same_local s u z x y None None [] h shown in
+      let inner = declared_named p f s constant u x.name None [] h in
+      let after = declared_follows s t constant u z x.name y.name None None same follows in
+      let known = (declared s constant u x.name None).known in
+      let parts = faultless_first (declared_at s.known s.depth x) (optional_uses known b) faultless in
+      let again = optional_again p f known (declared t false z y.name None).known inner.names after.sees b a (all_clean (optional_uses known b) parts.1) shows in
+      record {
+        stmt = λ i. stmt.Scalar (length (follows.locals i)) (again.expr i);
+        locals = λ i. same i ∷ [];
+        follows = after;
+        faultless = faultless_more (declared_at t.known t.depth y) (optional_uses (declared t false z y.name None).known a) (declared_once s t x y follows (ap (λ (l : Local). l.name) same) parts.0) again.faultless;
+      }
+
+  -- the printed length is the array's
+  array_length_again : (s : Scope) (t z : Ty) (x y : Spot) (m n at : ℕ) (es : Option (List RawExpr)) → local_of z y.name (Some m) ≡ local_of t x.name (Some n) → n ≤ 64 → array_length (Some (e.Num at ty.Int m)) es ≡ n
+  array_length_again s t z x y m n at es same short =
+      let is : m ≡ n = ap (λ (l : Local). unwrap_or l.length 0) same in
+      literal_length at m es (subst (λ k. k ≤ 64) (sym is) short) ∙ is
