@@ -13,9 +13,9 @@ mod FormedLoops
 mod FormedStatements
 pub mod DeclaredLocals
 pub mod FileScope
-mod SpansOfFunctions
+pub mod SpansOfFunctions
 mod ConstantRanges
 mod FormedGlobals
-mod FormedFunctions
-mod EntryFunction
-mod FormedPrograms
+pub mod FormedFunctions
+pub mod EntryFunction
+pub mod FormedPrograms
