@@ -25,3 +25,5 @@ pub mod ScopesAgain
 pub mod NamedScopes
 pub mod LiteralLengths
 pub mod DeclaredAgain
+pub mod NamesOfUnits
+pub mod FileWalks
