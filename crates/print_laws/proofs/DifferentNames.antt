@@ -46,7 +46,17 @@ different_middle name (m ∷ ms) ns new h =
     let parts = new_parts m ms ns h.0 in
     (new_append m ms (name ∷ ns) parts.0 (λ same. new.0 (sym same), parts.1), different_middle name ms ns new.1 h.1)
 
+-- a name is none of those before it
+pub new_at_seam : (name : List ℕ) (ms ns : List (List ℕ)) → AreDifferent (ms ++ name ∷ ns) → IsNew name ms
+new_at_seam name [] ns h = tt
+new_at_seam name (m ∷ ms) ns h =
+    let parts = new_parts m ms (name ∷ ns) h.0 in (λ same. parts.1.0 (sym same), new_at_seam name ms ns h.1)
+
 -- ---- at their places
+
+pub map_append : {A : Type 0} (f : A → List ℕ) (xs ys : List A) → map f (xs ++ ys) ≡ map f xs ++ map f ys
+map_append f [] ys = refl
+map_append f (x ∷ xs) ys = ap (λ ns. f x ∷ ns) (map_append f xs ys)
 
 pub new_at : {A : Type 0} (f : A → List ℕ) (name : List ℕ) (xs : List A) (n : ℕ) (x : A) → IsNew name (map f xs) → slice_get xs n ≡ Some x → name ≡ f x → ⊥
 new_at f name [] n x h at same = absurd (cc)

@@ -27,3 +27,9 @@ pub mod LiteralLengths
 pub mod DeclaredAgain
 pub mod NamesOfUnits
 pub mod FileWalks
+pub mod ShownConstants
+pub mod EntriesAgain
+pub mod GlobalsAgain
+pub mod PrintedGlobals
+pub mod FunctionsAgain
+pub mod TypedAgain
