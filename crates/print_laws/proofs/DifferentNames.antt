@@ -54,10 +54,6 @@ new_at_seam name (m ∷ ms) ns h =
 
 -- ---- at their places
 
-pub map_append : {A : Type 0} (f : A → List ℕ) (xs ys : List A) → map f (xs ++ ys) ≡ map f xs ++ map f ys
-map_append f [] ys = refl
-map_append f (x ∷ xs) ys = ap (λ ns. f x ∷ ns) (map_append f xs ys)
-
 pub new_at : {A : Type 0} (f : A → List ℕ) (name : List ℕ) (xs : List A) (n : ℕ) (x : A) → IsNew name (map f xs) → slice_get xs n ≡ Some x → name ≡ f x → ⊥
 new_at f name [] n x h at same = absurd (cc)
 new_at f name (y ∷ ys) zero x h at same = let here : y ≡ x = cc in h.0 (same ∙ ap f (sym here))

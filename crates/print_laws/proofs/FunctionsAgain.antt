@@ -1,5 +1,6 @@
 -- A function of a printed text is the function of the program, and no fault stands in it.
 use Rattle.std.proofs.Common.{◌≡◌, ◌≤◌, ℕ, Bool, true, false, List, [], ◌∷◌, ◌++◌, length, take, map, Option, Some, None, refl, sym, ap, ◌∙◌, subst, arith, append_assoc, append-nil}
+use Rattle.std.proofs.lemmas.List.{map-append}
 use Rattle.c_tree.specs.declared.tree.Ty.{Ty}
 use Rattle.c_tree.specs.declared.tree.Var.TheVariants.{Local, Global}
 use Rattle.c_tree.specs.declared.program.Local.{Local as Declared}
@@ -25,7 +26,7 @@ use Rattle.print_laws.proofs.ScopesAgain.{declared_follows}
 use Rattle.print_laws.proofs.NamedScopes.{IsNamed, declared_named}
 use Rattle.print_laws.proofs.DeclaredAgain.{declared_once}
 use Rattle.print_laws.proofs.BodiesAgain.{body_again}
-use Rattle.print_laws.proofs.DifferentNames.{IsNew, AreDifferent, new_parts, new_append, new_at_seam, map_append}
+use Rattle.print_laws.proofs.DifferentNames.{IsNew, AreDifferent, new_parts, new_append, new_at_seam}
 use Rattle.print_laws.proofs.KnownNames.{AllKnown, IsShallow, entity_is, shallow_unknown, new_unknown}
 use Rattle.print_laws.proofs.FilesAgain.{global_names, func_names, program_names, IsOf, IsKnownOf, IsPlain, sees_again}
 use Rattle.print_laws.proofs.PrintedKnown.{funcs_known, file_known, printed_known, printed_of, printed_has, printed_shallow, names_of_file, funcs_at, file_at, IsPlainOf}
@@ -87,7 +88,7 @@ names_of_known p f ks all name e found =
 pub func_new : (p : Program) (fv : File) (above more : List Func) (g : Func) → AreDifferent (program_names p) → IsPrintedAt p fv above (g ∷ more) → is_known_at fv.known 1 g.name ≡ false
 func_new p fv above more g different at =
     let gs = global_names p.globals in
-    let names : program_names p ≡ (gs ++ func_names above) ++ g.name ∷ func_names more = ap (λ l. gs ++ func_names l) at.more_funcs ∙ ap (λ l. gs ++ l) (map_append (λ (f : Func). f.name) above (g ∷ more)) ∙ sym (append_assoc gs (func_names above) (g.name ∷ func_names more)) in
+    let names : program_names p ≡ (gs ++ func_names above) ++ g.name ∷ func_names more = ap (λ l. gs ++ func_names l) at.more_funcs ∙ ap (λ l. gs ++ l) (map-append (λ (f : Func). f.name) above (g ∷ more)) ∙ sym (append_assoc gs (func_names above) (g.name ∷ func_names more)) in
     let new : IsNew g.name (gs ++ func_names above) = new_at_seam g.name (gs ++ func_names above) (func_names more) (subst AreDifferent names different) in
     ap (λ ks. is_known_at ks 1 g.name) at.known
     ∙ new_unknown (funcs_known 0 0 p.funcs) (file_known p above) g.name (funcs_at 0 0 p.funcs) (file_at p above) (subst (IsNew g.name) (sym (names_of_file p above)) new)

@@ -1,6 +1,7 @@
 -- In a unit without faults no name is declared twice at file scope, so the names of its program are different.
 use Rattle.std.proofs.Common.{◌≡◌, ℕ, Bool, true, false, List, [], ◌∷◌, ◌++◌, map, Option, Some, None, refl, sym, ap, ◌∙◌, subst, append_assoc}
 use Rattle.std.specs.Prelude.{unwrap_or}
+use Rattle.std.proofs.lemmas.List.{map-append}
 use Rattle.c_tree.specs.declared.unit.Spot.{Spot}
 use Rattle.c_tree.specs.declared.unit.RawExpr.{RawExpr}
 use Rattle.c_tree.specs.declared.unit.RawShape.{RawShape}
@@ -16,7 +17,6 @@ use Rattle.print_laws.proofs.FaultlessUses.{AreFaultless, faultless_parts, fault
 use Rattle.print_laws.proofs.DifferentNames.{IsNew, AreDifferent, AreNew, new_parts, new_append, are_new_parts, different_middle}
 use Rattle.print_laws.proofs.KnownNames.{AllKnown, IsAt, known_names, all_append, unknown_new}
 use Rattle.print_laws.proofs.FilesAgain.{global_names, func_names}
-use Rattle.print_laws.proofs.PrintedKnown.{names_append}
 
 -- the name that a declaration declares
 abbrev pub top_name : RawTop → List ℕ
@@ -78,7 +78,7 @@ names_different f ks ms (t ∷ ts) known h g faultless =
     let more : List Known = ms ++ m.made ∷ [] in
     let all : (behind_top f t).known ≡ ks ++ more = m.last ∙ ap (λ l. l ++ m.made ∷ []) known ∙ append_assoc ks ms (m.made ∷ []) in
     let rest = names_different (behind_top f t) ks more ts all h (all_append (IsAt 1) ms (m.made ∷ []) g (m.outermost, tt)) parts.1 in
-    let names : known_names more ≡ known_names ms ++ top_name t ∷ [] = names_append ms (m.made ∷ []) ∙ ap (λ n. known_names ms ++ n ∷ []) m.named in
+    let names : known_names more ≡ known_names ms ++ top_name t ∷ [] = map-append (λ (k : Known). k.name) ms (m.made ∷ []) ∙ ap (λ n. known_names ms ++ n ∷ []) m.named in
     let split = are_new_parts (top_names ts) (known_names ms) (top_name t) (subst (AreNew (top_names ts)) names rest.1) in
     ((split.1, rest.0), (new, split.0))
 

@@ -1,6 +1,7 @@
 -- Behind its globals a printed text has them all, and no fault so far.
 use Rattle.std.proofs.Common.{◌≡◌, ℕ, ◌+◌, Bool, true, false, List, [], ◌∷◌, ◌++◌, length, map, refl, sym, ap, ◌∙◌, subst, arith, append_assoc, append-nil}
 use Rattle.std.specs.Prelude.{is_some}
+use Rattle.std.proofs.lemmas.List.{map-append}
 use Rattle.c_tree.specs.declared.program.Global.{Global as Outside}
 use Rattle.c_tree.specs.declared.program.Func.{Func}
 use Rattle.c_tree.specs.declared.program.Program.{Program}
@@ -12,7 +13,7 @@ use Rattle.c_tree.specs.WellFormed.{WellFormedGlobals}
 use Rattle.typed_laws.proofs.FileScope.{length_more}
 use Rattle.print_laws.specs.Shown.{ShowsDeclaration, ShowsGlobals}
 use Rattle.print_laws.proofs.FaultlessUses.{AreFaultless, faultless_both}
-use Rattle.print_laws.proofs.DifferentNames.{IsNew, AreDifferent, new_at_seam, map_append}
+use Rattle.print_laws.proofs.DifferentNames.{IsNew, AreDifferent, new_at_seam}
 use Rattle.print_laws.proofs.KnownNames.{new_unknown}
 use Rattle.print_laws.proofs.FilesAgain.{global_names, func_names, program_names}
 use Rattle.print_laws.proofs.PrintedKnown.{funcs_known, globals_known, global_known, globals_known_more, names_of_globals, funcs_at, globals_at}
@@ -52,7 +53,7 @@ none_follow p f before ts h =
 -- a global's name is new behind those before it
 global_new : (p : Program) (f : File) (before gs : List Outside) (g : Outside) → AreDifferent (program_names p) → AreBefore p f before (g ∷ gs) → is_known_at f.known 1 g.name ≡ false
 global_new p f before gs g different h =
-    let names : program_names p ≡ global_names before ++ g.name ∷ (global_names gs ++ func_names p.funcs) = ap (λ l. global_names l ++ func_names p.funcs) h.more ∙ ap (λ l. l ++ func_names p.funcs) (map_append (λ (o : Outside). o.name) before (g ∷ gs)) ∙ append_assoc (global_names before) (g.name ∷ global_names gs) (func_names p.funcs) in
+    let names : program_names p ≡ global_names before ++ g.name ∷ (global_names gs ++ func_names p.funcs) = ap (λ l. global_names l ++ func_names p.funcs) h.more ∙ ap (λ l. l ++ func_names p.funcs) (map-append (λ (o : Outside). o.name) before (g ∷ gs)) ∙ append_assoc (global_names before) (g.name ∷ global_names gs) (func_names p.funcs) in
     let new : IsNew g.name (global_names before) = new_at_seam g.name (global_names before) _ (subst AreDifferent names different) in
     ap (λ ks. is_known_at ks 1 g.name) h.known
     ∙ new_unknown (funcs_known 0 0 p.funcs) (globals_known 0 before) g.name (funcs_at 0 0 p.funcs) (globals_at 0 before) (subst (IsNew g.name) (sym (names_of_globals 0 before)) new)

@@ -1,6 +1,7 @@
 -- What is known at file scope in a printed text: the functions of the whole text, the globals, and the functions so far.
 use Rattle.std.proofs.Common.{◌≡◌, ◌≤◌, ℕ, ◌+◌, Bool, true, false, List, [], ◌∷◌, ◌++◌, length, map, Option, Some, None, refl, sym, ap, ◌∙◌, subst, arith, append_assoc, append-nil}
 use Rattle.std.specs.Prelude.{is_some, slice_get}
+use Rattle.std.proofs.lemmas.List.{map-append}
 use Rattle.c_tree.specs.declared.tree.Var.TheVariants.{Local, Global}
 use Rattle.c_tree.specs.declared.program.Global.{Global as Outside}
 use Rattle.c_tree.specs.declared.program.Func.{Func}
@@ -51,10 +52,6 @@ globals_known_more n (h ∷ gs) g =
 
 -- ---- names and depths
 
-pub names_append : (ks ls : List Known) → known_names (ks ++ ls) ≡ known_names ks ++ known_names ls
-names_append [] ls = refl
-names_append (k ∷ ks) ls = ap (λ ns. k.name ∷ ns) (names_append ks ls)
-
 pub names_of_funcs : (d n : ℕ) (fs : List Func) → known_names (funcs_known d n fs) ≡ func_names fs
 names_of_funcs d n [] = refl
 names_of_funcs d n (f ∷ fs) = ap (λ ns. f.name ∷ ns) (names_of_funcs d (n + 1) fs)
@@ -65,7 +62,7 @@ names_of_globals n (g ∷ gs) = ap (λ ns. g.name ∷ ns) (names_of_globals (n +
 
 pub names_of_file : (p : Program) (above : List Func) → known_names (file_known p above) ≡ global_names p.globals ++ func_names above
 names_of_file p above =
-    names_append (globals_known 0 p.globals) (funcs_known 1 0 above) ∙ (λ i. names_of_globals 0 p.globals i ++ names_of_funcs 1 0 above i)
+    map-append (λ (k : Known). k.name) (globals_known 0 p.globals) (funcs_known 1 0 above) ∙ (λ i. names_of_globals 0 p.globals i ++ names_of_funcs 1 0 above i)
 
 pub funcs_at : (d n : ℕ) (fs : List Func) → AllKnown (IsAt d) (funcs_known d n fs)
 funcs_at d n [] = tt
@@ -113,7 +110,7 @@ printed_of p above more all =
 
 printed_names : (p : Program) (above : List Func) → known_names (printed_known p above) ≡ func_names p.funcs ++ (global_names p.globals ++ func_names above)
 printed_names p above =
-    names_append (funcs_known 0 0 p.funcs) (file_known p above) ∙ (λ i. names_of_funcs 0 0 p.funcs i ++ names_of_file p above i)
+    map-append (λ (k : Known). k.name) (funcs_known 0 0 p.funcs) (file_known p above) ∙ (λ i. names_of_funcs 0 0 p.funcs i ++ names_of_file p above i)
 
 no_name : (p : Program) (name : List ℕ) (e : Entity) → IsOf p name e → IsNew name (func_names p.funcs) → IsNew name (global_names p.globals) → ⊥
 no_name p name (Variable (Local n) a c) h f g = h
