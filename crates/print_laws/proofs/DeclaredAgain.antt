@@ -1,6 +1,6 @@
 -- A declaration of a printed text declares the same local, and is faultless.
-use Rattle.std.proofs.Common.{◌≡◌, ℕ, ◌+◌, ◌≤◌, Bool, true, false, List, [], ◌∷◌, ◌++◌, length, Option, Some, None, refl, sym, ap, ◌∙◌, subst}
-use Rattle.std.specs.Prelude.{is_some, slice_get, unwrap_or}
+use Rattle.std.proofs.Common.{◌≡◌, ℕ, ◌≤◌, Bool, true, false, List, [], ◌∷◌, length, Option, Some, None, sym, ap, ◌∙◌, subst}
+use Rattle.std.specs.Prelude.{slice_get, unwrap_or}
 use Rattle.c_tree.specs.declared.tree.Ty.{Ty}
 use Rattle.c_tree.specs.declared.tree.Ty.TheVariants as ty
 use Rattle.c_tree.specs.declared.tree.Stmt.TheVariants as stmt
@@ -17,7 +17,7 @@ use Rattle.c_tree.specs.declared.unit.RawStmt.TheVariants.{Declare}
 use Rattle.c_tree.specs.Scopes.{is_known_at}
 use Rattle.c_tree.specs.Constants.{exprs_of, array_length, shape_length}
 use Rattle.c_tree.specs.Naming.{Scope, local_of, declared, optional, declaration, stmt_locals, behind, stmt_of}
-use Rattle.c_tree.specs.Uses.{Use, Declared, Sized, declared_at, sized, optional_uses, exprs_uses, list_uses, length_uses, declarator_uses, stmt_uses}
+use Rattle.c_tree.specs.Uses.{Declared, Sized, declared_at, sized, optional_uses, exprs_uses, length_uses, declarator_uses, stmt_uses}
 use Rattle.c_tree.specs.Refusals.{faults_of}
 use Rattle.typed_laws.proofs.Faultless.{use_clean, all_clean}
 use Rattle.typed_laws.proofs.FormedExpressions.{length_exprs}
@@ -73,3 +73,58 @@ module _ (p : Program) (f : Func) where
   array_length_again s t z x y m n at es same short =
       let is : m ≡ n = ap (λ (l : Local). unwrap_or l.length 0) same in
       literal_length at m es (subst (λ k. k ≤ 64) (sym is) short) ∙ is
+
+  -- a list that fits in its array still does
+  sized_again : (x y : Spot) (b : Option RawExpr) (bs es : List RawExpr) (m at : ℕ) → array_length (Some (e.Num at ty.Int m)) (Some es) ≡ array_length b (Some bs) → length es ≡ length bs
+      → faults_of (sized x b (Some bs) true) ≡ [] → faults_of (sized y (Some (e.Num at ty.Int m)) (Some es) true) ≡ []
+  sized_again x y b bs es m at size count h =
+      (λ i. faults_of (Sized y.at (size i) (Some (count i)) true)) ∙ sized_elsewhere x.at y.at (array_length b (Some bs)) (Some (length bs)) true h
+
+  array_again : (s t : Scope) (constant : Bool) (u z : Ty) (x y : Spot) (b : Option RawExpr) (bs es : List RawExpr) (m at : ℕ) → Follows s t → IsNamed p f s (local_of u x.name (Some (array_length b (Some bs))) ∷ [])
+      → AreFaultless (declarator_uses s constant u x (shape.Array b (Some bs))) → DeclaresLocal f (length s.locals) z y (Some m) → ShowAll p f es (exprs_of (declared s constant u x.name (Some (array_length b (Some bs)))).known bs)
+      → IsAgain s t (Declare constant u x (shape.Array b (Some bs))) (Declare false z y (shape.Array (Some (e.Num at ty.Int m)) (Some es)))
+  unfolding stmt_of stmt_locals stmt_uses behind
+  array_again s t constant u z x y b bs es m at follows h faultless shown shows =
+      let n = array_length b (Some bs) in
+      let k = array_length (Some (e.Num at ty.Int m)) (Some es) in
+      let known = (declared s constant u x.name (Some n)).known in
+      let printed = (declared t false z y.name (Some k)).known in
+      let first = faultless_parts (length_uses s.known b) (declared_at s.known s.depth x ∷ (sized x b (Some bs) true ∷ exprs_uses known bs)) faultless in
+      let second = faultless_first (declared_at s.known s.depth x) (sized x b (Some bs) true ∷ exprs_uses known bs) first.1 in
+      let third = faultless_first (sized x b (Some bs) true) (exprs_uses known bs) second.1 in
+      let fits = use_clean (sized x b (Some bs) true) third.0 in
+      let written = same_local s u z x y (Some m) (Some n) [] h shown in
+      let size : k ≡ n = array_length_again s u z x y m n at (Some es) written fits.0.1 in
+      let longer : k ≡ m = size ∙ sym (ap (λ (l : Local). unwrap_or l.length 0) written) in
+      let same : local_of z y.name (Some k) ≡ local_of u x.name (Some n) = ap (λ j. local_of z y.name (Some j)) longer ∙ written in
+      let inner = declared_named p f s constant u x.name (Some n) [] h in
+      let after = declared_follows s t constant u z x.name y.name (Some n) (Some k) same follows in
+      let again = all_shown_again printed shows (exprs_seen p f known printed inner.names after.sees bs (all_clean (exprs_uses known bs) third.1)) in
+      let count : length es ≡ length bs = again.count ∙ length_exprs known bs in
+      let list = sized y (Some (e.Num at ty.Int m)) (Some es) true ∷ exprs_uses printed es in
+      let once = declared_once s t x y follows (ap (λ (l : Local). l.name) same) second.0 in
+      let rest = faultless_more (sized y (Some (e.Num at ty.Int m)) (Some es) true) (exprs_uses printed es) (sized_again x y b bs es m at size count third.0) again.faultless in
+      record {
+        stmt = λ i. stmt.Array (length (follows.locals i)) (again.exprs i);
+        locals = λ i. same i ∷ [];
+        follows = after;
+        faultless = faultless_both (length_uses t.known (Some (e.Num at ty.Int m))) (declared_at t.known t.depth y ∷ list) (literal_faultless t.known at m) (faultless_more (declared_at t.known t.depth y) list once rest);
+      }
+
+  -- a list that is not there is a fault
+  no_list : (s : Scope) (constant : Bool) (u : Ty) (x : Spot) (b : Option RawExpr) → AreFaultless (declarator_uses s constant u x (shape.Array b None)) → ⊥
+  no_list s constant u x b faultless =
+      let first = faultless_parts (length_uses s.known b) (declared_at s.known s.depth x ∷ (sized x b None true ∷ [])) faultless in
+      let second = faultless_first (declared_at s.known s.depth x) (sized x b None true ∷ []) first.1 in
+      let fits = use_clean (sized x b None true) (faultless_first (sized x b None true) [] second.1).0 in
+      let no : true ≡ false = fits.1 in
+      absurd (cc)
+
+  pub declaration_again : (s t : Scope) (constant : Bool) (u : Ty) (x : Spot) (sh : RawShape) (r : RawStmt) → Follows s t → IsNamed p f s (local_of u x.name (shape_length sh) ∷ []) → AreFaultless (declarator_uses s constant u x sh)
+      → ShowsStmt p f r (declaration (declared s constant u x.name (shape_length sh)).known (length s.locals) sh) → IsAgain s t (Declare constant u x sh) r
+  unfolding ShowsStmt
+  declaration_again s t constant u x (shape.Scalar b) r follows h faultless shows =
+      subst (IsAgain s t (Declare constant u x (shape.Scalar b))) (sym shows.3) (scalar_again s t constant u shows.0 x shows.1 b shows.2 follows h faultless shows.4 shows.5)
+  declaration_again s t constant u x (shape.Array b None) r follows h faultless shows = absurd (no_list s constant u x b faultless)
+  declaration_again s t constant u x (shape.Array b (Some bs)) r follows h faultless shows =
+      subst (IsAgain s t (Declare constant u x (shape.Array b (Some bs)))) (sym shows.5) (array_again s t constant u shows.0 x shows.1 b bs shows.4 shows.2 shows.3 follows h faultless shows.6 shows.7)

@@ -7,8 +7,8 @@ use Rattle.std.proofs.lemmas.Grind.{flat_map-append}
 use Rattle.c_tree.specs.declared.tree.Var.{Var}
 use Rattle.c_tree.specs.Scopes.{Entity, Variable, Function}
 use Rattle.c_tree.specs.Uses.{Use, Read, Assigned, Called, Declared, Sized, Returned, Left}
-use Rattle.c_tree.specs.Refusals.{Fault, Twice, Arity, NoValue, Stray, LaterCall, ArrayLength, NoInit, Refusal, where_true, faults_of}
-use Rattle.typed_laws.proofs.Faultless.{none_of, not_there}
+use Rattle.c_tree.specs.Refusals.{Fault, Arity, NoValue, LaterCall, ArrayLength, NoInit, Refusal, where_true, faults_of}
+use Rattle.typed_laws.proofs.Faultless.{none_of}
 
 -- no fault stands in these
 abbrev pub AreFaultless : List Use → Type 0

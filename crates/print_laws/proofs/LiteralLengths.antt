@@ -1,5 +1,5 @@
 -- The length of an array that is written as a number is this number.
-use Rattle.std.proofs.Common.{◌≡◌, ℕ, ◌<◌, ◌≤◌, ◌^◌, List, [], ◌∷◌, Option, Some, None, ℤ, pos, refl, sym, ap, ◌∙◌, arith}
+use Rattle.std.proofs.Common.{◌≡◌, ℕ, ◌<◌, ◌≤◌, ◌^◌, List, Option, Some, pos, refl, ap, arith}
 use Rattle.std.specs.Int.{cast_signed, w32}
 use Rattle.std.proofs.Math.Facts.{to_z-of_z}
 use Rattle.c_tree.specs.declared.tree.Ty.TheVariants as ty

@@ -63,11 +63,11 @@ module _ (p : Program) (f : Func) where
   looping_named s ls h = record { names = h.names; rest = h.rest; split = h.split }
 
   -- behind the target of a call
-  pub targeted_named : (s : Scope) (u : RawTarget) (g : Spot) (es : List RawExpr) (ms : List Local) → IsNamed p f s (stmt_locals (Call u g es) ++ ms) → IsNamed p f (targeted s u) ms
+  pub targeted_named : (s : Scope) (u : RawTarget) (g : Spot) (es : List RawExpr) → IsNamed p f s (stmt_locals (Call u g es)) → IsNamed p f (targeted s u) []
   unfolding stmt_locals
-  targeted_named s target.Nothing g es ms h = h
-  targeted_named s (target.Assign x) g es ms h = h
-  targeted_named s (target.Declare constant t x) g es ms h = declared_named s constant t x.name None ms h
+  targeted_named s target.Nothing g es h = h
+  targeted_named s (target.Assign x) g es h = h
+  targeted_named s (target.Declare constant t x) g es h = declared_named s constant t x.name None [] h
 
   pub behind_named : (s : Scope) (x : RawStmt) (ms : List Local) → IsNamed p f s (stmt_locals x ++ ms) → IsNamed p f (behind s x) ms
   unfolding behind stmt_locals

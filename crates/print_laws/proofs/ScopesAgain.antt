@@ -1,6 +1,6 @@
 -- Scopes of a text and of its printed text: behind a declaration and inside a list their names still stand for the same.
-use Rattle.std.proofs.Common.{◌≡◌, ℕ, ◌+◌, ◌≤◌, Bool, true, false, List, [], ◌∷◌, ◌++◌, length, Option, Some, None, refl, sym, ap, ◌∙◌, append_assoc, arith}
-use Rattle.std.specs.Prelude.{is_some, slice_get, bytes_eq, option_map, if◌then◌else◌, ◌==◌}
+use Rattle.std.proofs.Common.{◌≡◌, ℕ, ◌+◌, ◌≤◌, Bool, true, false, List, [], ◌∷◌, ◌++◌, length, Option, Some, None, refl, sym, ap, ◌∙◌, arith}
+use Rattle.std.specs.Prelude.{is_some, bytes_eq, option_map, if◌then◌else◌, ◌==◌}
 use Rattle.std.specs.Option.{option_or, option_map_or}
 use Rattle.std.proofs.lemmas.Slice.Eq.{bytes_eq-Decides}
 use Rattle.c_tree.specs.declared.tree.Ty.{Ty}
@@ -8,7 +8,7 @@ use Rattle.c_tree.specs.declared.tree.Var.TheVariants as var
 use Rattle.c_tree.specs.declared.program.Func.{Func}
 use Rattle.c_tree.specs.declared.program.Local.{Local}
 use Rattle.c_tree.specs.declared.program.Program.{Program}
-use Rattle.c_tree.specs.Scopes.{Entity, Variable, Known, latest, entity_of, is_known_at}
+use Rattle.c_tree.specs.Scopes.{Entity, Variable, Known, latest}
 use Rattle.c_tree.specs.Naming.{Scope, local_of, declared, opened, looping, past}
 use Rattle.print_laws.proofs.Scoped.{plain, Sees, ScopeAlike, Follows, entity_name, AreNames}
 

@@ -1,7 +1,5 @@
 use Rattle.print_laws.proofs.ComposedStatements.{program_pieces}
 use Rattle.print_laws.proofs.TypedAgain.{typed_again}
-use Rattle.print_laws.proofs.Scoped.{AreAgain}
-use Rattle.print_laws.proofs.DeclaredAgain.{IsAgain}
 use Rattle.print_laws.proofs.law.printed_programs_are_read_again.Goals as goal
 
 pub returns : goal.returns
