@@ -32,6 +32,7 @@ pub mod SpelledFunctions
 pub mod SpelledGlobals
 pub mod SpelledPrograms
 pub mod PrintedPrograms
+pub mod BodiesAgain
 pub mod FaultlessUses
 pub mod ExpressionsAgain
 pub mod ScopesAgain
@@ -43,7 +44,6 @@ pub mod CalledAgain
 pub mod BlocksAgain
 pub mod RowsAgain
 pub mod StatementsAgain
-pub mod BodiesAgain
 pub mod NamedTexts
 pub mod NamedExpressions
 pub mod NamedStatements
@@ -53,3 +53,15 @@ pub mod NamedVariables
 pub mod ShowableExpressions
 pub mod ShowableStatements
 pub mod ShowablePrograms
+pub mod DifferentNames
+pub mod KnownNames
+pub mod FilesAgain
+pub mod PrintedKnown
+pub mod NamesOfUnits
+pub mod FileWalks
+pub mod ShownConstants
+pub mod GlobalsAgain
+pub mod PrintedGlobals
+pub mod FunctionsAgain
+pub mod EntriesAgain
+pub mod TypedAgain
