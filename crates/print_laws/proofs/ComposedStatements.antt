@@ -1,5 +1,5 @@
 -- The text of a program in pieces.
-use Rattle.std.proofs.Common.{◌≡◌, ℕ, zero, suc, ◌+◌, ◌-◌, ◌^◌, Bool, true, false, List, [], ◌∷◌, ◌++◌}
+use Rattle.std.proofs.Common.{ℕ, zero, suc, ◌+◌, ◌-◌, ◌^◌, Bool, true, false, List, [], ◌∷◌, ◌++◌}
 use Rattle.std.specs.Prelude.{codes, take, slice_get, if◌then◌else◌, ◌==◌, Option, Some, None, ℤ, pos, negsuc}
 use Rattle.c_tree.specs.declared.tree.Ty.{Ty}
 use Rattle.c_tree.specs.declared.tree.Ty.TheVariants as ty
@@ -20,9 +20,9 @@ use Rattle.c_tree.specs.WellFormed.{is_initialiser, is_step}
 use Rattle.print_laws.specs.PrintedExpressions.{name_text, type_text, bin_text, number_text}
 use Rattle.print_laws.specs.PrintedStatements.{func_name}
 use Rattle.print_laws.proofs.Composed.{Piece, Gap, Lexeme, Pragma}
-use Rattle.print_laws.proofs.ComposedExpressions.{IsShowable, mark, word, is_unsigned, pieces}
-use Rattle.print_laws.proofs.ExpressionLists.{AreShowable, list_pieces}
-use Rattle.print_laws.proofs.Showable.{IsShowableOptional, AreShowableArguments, IsShowablePlace, IsShowableTarget, IsShowableStmt, IsShowableRow, IsShowableHeld, IsShowableSole, AreShowableStmts, IsShowableFunc, AreShowableFuncs, IsShowableProgram}
+use Rattle.print_laws.proofs.ComposedExpressions.{mark, word, is_unsigned, pieces}
+use Rattle.print_laws.proofs.ExpressionLists.{list_pieces}
+use Rattle.print_laws.proofs.Showable.{IsShowableOptional, AreShowableArguments, IsShowablePlace, IsShowableStmt, IsShowableRow, IsShowableHeld, IsShowableSole, AreShowableStmts, IsShowableFunc, AreShowableFuncs, IsShowableProgram}
 
 -- ---- lines
 
@@ -126,6 +126,7 @@ closing_pieces k rest = margin_pieces k (mark (codes "}") ∷ Gap 10 ∷ rest)
 
 unfoldable mutual
   unfolding IsShowableStmt
+
   pub stmt_pieces : (p : Program) (f : Func) (k : ℕ) (s : Stmt) → IsShowableStmt p f s → List Piece → List Piece
   stmt_pieces p f k (If' e m xs n ys) d rest =
       margin_pieces k (word (codes "if") ∷ Gap 32 ∷ mark (codes "(") ∷ pieces d.0 (opening_pieces (row_pieces p f (k + 1) xs d.1 (else_pieces p f k ys d.2 rest))))
@@ -189,8 +190,8 @@ unfoldable pub kept_pieces : Ty → ℤ → List Piece → List Piece
 kept_pieces t (pos n) rest = number_piece t n ∷ rest
 kept_pieces t (negsuc n) rest =
     if n == 2 ^ 31 - 1
-      then mark (codes "(") ∷ word (codes "int") ∷ mark (codes ")") ∷ number_piece ty.Unsigned 2147483648 ∷ rest
-      else mark (codes "-") ∷ number_piece t (suc n) ∷ rest
+    then mark (codes "(") ∷ word (codes "int") ∷ mark (codes ")") ∷ number_piece ty.Unsigned 2147483648 ∷ rest
+    else mark (codes "-") ∷ number_piece t (suc n) ∷ rest
 
 unfoldable pub more_kept_pieces : Ty → List ℤ → List Piece → List Piece
 more_kept_pieces t [] rest = rest

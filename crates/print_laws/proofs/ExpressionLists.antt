@@ -8,7 +8,7 @@ use Rattle.c_tree.specs.declared.program.Program.{Program}
 use Rattle.c_tree.specs.Characters.{is_blank, is_line_feed, is_digit, is_nondigit, is_name_byte, is_sign}
 use Rattle.c_tree.specs.SpelledExpressions as g
 use Rattle.c_tree.specs.SpelledExpressions.{Separated, Expression}
-use Rattle.print_laws.specs.Shown.{Shows, ShowAll, show_none, show_more}
+use Rattle.print_laws.specs.Shown.{ShowAll, show_none, show_more}
 use Rattle.print_laws.specs.PrintedExpressions.{joined, expr_text}
 use Rattle.print_laws.proofs.Composed.{Piece, Gap, text_of}
 use Rattle.print_laws.proofs.StandingMarks.{comma_stands}

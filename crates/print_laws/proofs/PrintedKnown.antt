@@ -1,5 +1,5 @@
 -- What is known at file scope in a printed text: the functions of the whole text, the globals, and the functions so far.
-use Rattle.std.proofs.Common.{◌≡◌, ◌≤◌, ℕ, ◌+◌, Bool, true, false, List, [], ◌∷◌, ◌++◌, length, map, Option, Some, None, refl, sym, ap, ◌∙◌, subst, arith, append_assoc, append-nil}
+use Rattle.std.proofs.Common.{◌≡◌, ◌≤◌, ℕ, ◌+◌, false, List, [], ◌∷◌, ◌++◌, length, Some, refl, sym, ap, ◌∙◌, subst, arith, append_assoc, append-nil}
 use Rattle.std.specs.Prelude.{is_some, slice_get}
 use Rattle.std.proofs.lemmas.List.{map-append}
 use Rattle.c_tree.specs.declared.tree.Var.TheVariants.{Local, Global}
@@ -11,7 +11,7 @@ use Rattle.c_tree.specs.Naming.{at_file_scope}
 use Rattle.typed_laws.proofs.FileScope.{get_seam, length_more}
 use Rattle.print_laws.proofs.DifferentNames.{IsNew, new_parts, new_at}
 use Rattle.print_laws.proofs.KnownNames.{AllKnown, IsAt, IsShallow, known_names, all_append}
-use Rattle.print_laws.proofs.FilesAgain.{global_names, func_names, program_names, IsKnownOf, IsOf, IsPlain, HasNames}
+use Rattle.print_laws.proofs.FilesAgain.{global_names, func_names, IsKnownOf, IsOf, IsPlain, HasNames}
 
 -- a function of a number, known at a depth
 abbrev pub func_known : ℕ → ℕ → Func → Known
@@ -104,7 +104,7 @@ pub printed_of : (p : Program) (above more : List Func) → p.funcs ≡ above ++
 printed_of p above more all =
     let whole : p.funcs ≡ p.funcs ++ [] = sym (append-nil p.funcs) in
     all_append (IsPlainOf p) (funcs_known 0 0 p.funcs) (file_known p above) (funcs_of_program p 0 0 [] p.funcs [] whole refl)
-        (all_append (IsPlainOf p) (globals_known 0 p.globals) (funcs_known 1 0 above) (globals_of_program p 0 [] p.globals refl refl) (funcs_of_program p 1 0 [] above more all refl))
+    (all_append (IsPlainOf p) (globals_known 0 p.globals) (funcs_known 1 0 above) (globals_of_program p 0 [] p.globals refl refl) (funcs_of_program p 1 0 [] above more all refl))
 
 -- ---- each name of the program is there
 

@@ -1,5 +1,5 @@
 -- The programs that a text has: each name is an identifier, each number is of its type, and each part is where its text needs it.
-use Rattle.std.specs.Prelude.{◌≡◌, ℕ, ◌<◌, ◌≤◌, Bool, IsTrue, List, [], ◌∷◌, slice_get, Option, Some, None}
+use Rattle.std.specs.Prelude.{◌≡◌, ℕ, ◌≤◌, Bool, IsTrue, List, [], ◌∷◌, slice_get, Option, Some, None}
 use Rattle.c_tree.specs.declared.tree.Expr.{Expr}
 use Rattle.c_tree.specs.declared.tree.Place.{Place}
 use Rattle.c_tree.specs.declared.tree.Place.TheVariants as place

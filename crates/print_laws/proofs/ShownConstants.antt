@@ -1,6 +1,6 @@
 -- An expression that shows a kept value is a constant of this value.
-use Rattle.std.proofs.Common.{◌≡◌, ℕ, suc, ◌<◌, ◌^◌, ◌-◌, Bool, true, false, cond, List, [], ◌∷◌, ◌++◌, length, Option, Some, None, ℤ, pos, negsuc, refl, sym, ap, ◌∙◌, subst, arith, eqb-true, lt-ltb, ltb-true}
-use Rattle.std.specs.Prelude.{IsTrue, is_none, if◌then◌else◌, ◌==◌, nat_lt}
+use Rattle.std.proofs.Common.{◌≡◌, ℕ, suc, ◌<◌, ◌^◌, ◌-◌, Bool, true, false, List, [], ◌∷◌, ◌++◌, length, Some, None, ℤ, pos, negsuc, refl, sym, ap, ◌∙◌, subst, arith, eqb-true, lt-ltb, ltb-true}
+use Rattle.std.specs.Prelude.{IsTrue, if◌then◌else◌, ◌==◌}
 use Rattle.std.specs.Int.{cast_signed, w32}
 use Rattle.std.proofs.lemmas.Bool.{eqb-false}
 use Rattle.std.proofs.Math.Facts.{to_z-of_z}
@@ -14,8 +14,8 @@ use Rattle.c_tree.specs.declared.unit.RawExpr.TheVariants as e
 use Rattle.c_tree.specs.declared.unit.RawExpr.TheBlock.{shape-the_row-RawExpr-0, hidden-the_row-RawExpr-0}
 use denote.Hole.Carrier.{hidden}
 use Rattle.c_tree.specs.declared.value.Value.{Value}
-use Rattle.c_tree.specs.declared.value.Value.TheVariants.{Int, Unsigned}
-use Rattle.c_tree.specs.Values.{is_of, of_int, convert}
+use Rattle.c_tree.specs.declared.value.Value.TheVariants.{Int}
+use Rattle.c_tree.specs.Values.{is_of, of_int}
 use Rattle.c_tree.specs.Operators.{int, unary}
 use Rattle.c_tree.specs.Expressions.{val, row_val}
 use Rattle.c_tree.specs.Scopes.{Known}

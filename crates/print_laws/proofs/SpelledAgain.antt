@@ -9,12 +9,10 @@ use Rattle.c_tree.specs.declared.tree.UnOp.{UnOp}
 use Rattle.c_tree.specs.declared.tree.UnOp.TheVariants as uo
 use Rattle.c_tree.specs.declared.tree.BinOp.{BinOp}
 use Rattle.c_tree.specs.declared.tree.BinOp.TheVariants as op
-use Rattle.c_tree.specs.declared.tree.Var.{Var}
 use Rattle.c_tree.specs.declared.tree.Expr.{Expr}
 use Rattle.c_tree.specs.declared.tree.Expr.TheVariants as x
 use Rattle.c_tree.specs.declared.token.Kind.{Kind}
 use Rattle.c_tree.specs.declared.token.Kind.TheVariants as kind
-use Rattle.c_tree.specs.declared.unit.Spot.{Spot}
 use Rattle.c_tree.specs.declared.unit.RawExpr.{RawExpr}
 use Rattle.c_tree.specs.declared.unit.RawExpr.TheVariants as e
 use Rattle.c_tree.specs.declared.symbol.Symbol.TheVariants as s
