@@ -1,5 +1,5 @@
 -- Names no two of which are the same.
-use Rattle.std.proofs.Common.{◌≡◌, ℕ, zero, suc, List, [], ◌∷◌, ◌++◌, map, Option, Some, None, refl, sym, ap, ◌∙◌}
+use Rattle.std.proofs.Common.{◌≡◌, ℕ, zero, suc, List, [], ◌∷◌, ◌++◌, map, Some, refl, sym, ap, ◌∙◌}
 use Rattle.std.specs.Prelude.{slice_get}
 
 -- a name is none of these
@@ -26,10 +26,6 @@ new_append name (m ∷ ms) ns h g = (h.0, new_append name ms ns h.1 g)
 pub new_parts : (name : List ℕ) (ms ns : List (List ℕ)) → IsNew name (ms ++ ns) → IsNew name ms × IsNew name ns
 new_parts name [] ns h = (tt, h)
 new_parts name (m ∷ ms) ns h = let rest = new_parts name ms ns h.1 in ((h.0, rest.0), rest.1)
-
-pub are_new_none : (ms : List (List ℕ)) → AreNew ms []
-are_new_none [] = tt
-are_new_none (m ∷ ms) = (tt, are_new_none ms)
 
 -- names that are none of some and of one more
 pub are_new_parts : (ms ns : List (List ℕ)) (name : List ℕ) → AreNew ms (ns ++ name ∷ []) → AreNew ms ns × IsNew name ms

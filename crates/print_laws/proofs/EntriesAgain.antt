@@ -1,21 +1,20 @@
 -- A unit of the same program has the same entry, the same number of inputs, and the same spans.
-use Rattle.std.proofs.Common.{◌≡◌, ◌≤◌, ℕ, ◌+◌, ◌^◌, Bool, true, false, not, cond, ◌||◌, List, [], ◌∷◌, ◌++◌, length, Option, Some, None, refl, sym, ap, ◌∙◌, subst, arith, length-append, le-ltb}
+use Rattle.std.proofs.Common.{◌≡◌, ◌≤◌, ℕ, ◌^◌, Bool, true, false, not, ◌||◌, List, [], ◌∷◌, ◌++◌, length, Option, Some, refl, sym, ap, subst, arith, length-append, le-ltb}
 use Rattle.std.specs.Prelude.{is_none, nat_lt, slice_get, unwrap_or, option_to_list, bytes_eq, if◌then◌else◌, map}
 use Rattle.std.specs.List.{list_any}
 use Rattle.std.proofs.lemmas.Option.{slice_get_past}
 use Rattle.c_tree.specs.declared.program.Func.{Func}
-use Rattle.c_tree.specs.declared.program.Program.{Program}
 use Rattle.c_tree.specs.declared.unit.RawFunc.{RawFunc}
 use Rattle.c_tree.specs.declared.unit.RawTop.{RawTop}
 use Rattle.c_tree.specs.declared.unit.RawTop.TheVariants as top
 use Rattle.c_tree.specs.declared.unit.Unit.{Unit as Tree}
 use Rattle.c_tree.specs.Layouts.{Shape}
-use Rattle.c_tree.specs.Naming.{File, with_func, behind_top, started, func_of, funcs_of, globals_of, entry_number, program_of}
-use Rattle.c_tree.specs.Runs.{entry_types, outer_types, input_types}
-use Rattle.c_tree.specs.Spans.{func_span, spans}
+use Rattle.c_tree.specs.Naming.{File, with_func, behind_top, started, funcs_of, globals_of, entry_number, program_of}
+use Rattle.c_tree.specs.Runs.{entry_types, outer_types}
+use Rattle.c_tree.specs.Spans.{spans}
 use Rattle.c_tree.specs.WellFormed.{WellFormed, WellFormedFuncs}
 use Rattle.c_tree.specs.Uses.{uses}
-use Rattle.c_tree.specs.Refusals.{Span, NoEntry, Inputs, where_true, refusal, func_named, param_inputs, outer_inputs, inputs, faults_of, no_entries, too_many_inputs, wide, too_wide, faults}
+use Rattle.c_tree.specs.Refusals.{Span, NoEntry, Inputs, where_true, refusal, func_named, param_inputs, outer_inputs, inputs, too_many_inputs, wide, too_wide, faults}
 use Rattle.typed_laws.proofs.EntryFunction.{has_name, entry_inputs, outer_same, named_some}
 use Rattle.typed_laws.proofs.SpansOfFunctions.{own_spans, spans_are, spans_more}
 use Rattle.print_laws.proofs.FaultlessUses.{AreFaultless}

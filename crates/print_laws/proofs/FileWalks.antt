@@ -1,5 +1,5 @@
 -- Where a declaration stands at file scope, in a text and in its printed text.
-use Rattle.std.proofs.Common.{◌≡◌, ◌≤◌, ℕ, ◌+◌, Bool, true, false, List, [], ◌∷◌, ◌++◌, length, map, Option, Some, None, refl, sym, ap, ◌∙◌, subst, arith, append_assoc, append-nil}
+use Rattle.std.proofs.Common.{◌≡◌, ℕ, ◌+◌, Bool, true, false, List, [], ◌∷◌, ◌++◌, length, map, Option, Some, None, refl, sym, ap, ◌∙◌, subst, arith, append_assoc, append-nil}
 use Rattle.std.specs.Prelude.{is_some, slice_get, option_map}
 use Rattle.c_tree.specs.declared.tree.Ty.{Ty}
 use Rattle.c_tree.specs.declared.program.Global.{Global as Outside}
@@ -15,8 +15,8 @@ use Rattle.c_tree.specs.Constants.{array_length, shape_length}
 use Rattle.c_tree.specs.Scopes.{Function, Known}
 use Rattle.c_tree.specs.Naming.{File, at_file_scope, shape_values, with_global, with_func, behind_top, known_funcs, started, func_of, funcs_of, globals_of}
 use Rattle.typed_laws.proofs.FileScope.{get_seam, length_more}
-use Rattle.print_laws.specs.Shown.{ShowsFunc, ShowsFuncs, ShowsGlobals}
-use Rattle.print_laws.proofs.KnownNames.{AllKnown, IsAt, IsShallow, all_append}
+use Rattle.print_laws.specs.Shown.{ShowsFunc, ShowsFuncs}
+use Rattle.print_laws.proofs.KnownNames.{AllKnown, IsShallow, all_append}
 use Rattle.print_laws.proofs.FilesAgain.{IsKnownOf, IsPlain}
 use Rattle.print_laws.proofs.PrintedKnown.{func_known, funcs_known, funcs_known_more, funcs_at, funcs_of_program, printed_known, file_known, globals_known, shallow}
 
@@ -29,7 +29,7 @@ known_funcs_are n f (top.Global kept constant t x sh ∷ ts) = known_funcs_are n
 known_funcs_are n f (top.Func g ∷ ts) = ap (λ ks. func_known 0 n (func_of f g) ∷ ks) (known_funcs_are (n + 1) (with_func f g) ts)
 
 -- a printed function is known as the function
-pub shown_known : (p : Program) (d n : ℕ) (h : RawFunc) (g : Func) → ShowsFunc p h g → record { name = h.spot.name; depth = d; entity = Function n (length h.params) h.result } ≡ func_known d n g
+shown_known : (p : Program) (d n : ℕ) (h : RawFunc) (g : Func) → ShowsFunc p h g → record { name = h.spot.name; depth = d; entity = Function n (length h.params) h.result } ≡ func_known d n g
 shown_known p d n h g shows =
     (λ i. record { name = shows.named i; depth = d; entity = Function n (shows.count i) (shows.result i) })
 

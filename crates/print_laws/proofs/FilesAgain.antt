@@ -1,5 +1,5 @@
 -- At file scope each name that stands for something in a text stands for the same in its printed text.
-use Rattle.std.proofs.Common.{◌≡◌, ℕ, ◌+◌, Bool, true, false, List, [], ◌∷◌, ◌++◌, length, map, Option, Some, None, refl, sym, ap, ◌∙◌, subst, arith, append_assoc, length-append}
+use Rattle.std.proofs.Common.{◌≡◌, ℕ, Bool, false, List, ◌++◌, map, Option, Some, None, refl, sym, ap, ◌∙◌, subst}
 use Rattle.std.specs.Prelude.{IfSome, is_some, slice_get, option_map}
 use Rattle.std.proofs.lemmas.Option.{same_Some}
 use Rattle.c_tree.specs.declared.tree.Ty.{Ty}
@@ -7,10 +7,9 @@ use Rattle.c_tree.specs.declared.tree.Var.TheVariants.{Local, Global}
 use Rattle.c_tree.specs.declared.program.Global.{Global as Outside}
 use Rattle.c_tree.specs.declared.program.Func.{Func}
 use Rattle.c_tree.specs.declared.program.Program.{Program}
-use Rattle.c_tree.specs.Scopes.{Entity, Variable, Function, Known, latest, entity_of}
-use Rattle.c_tree.specs.Naming.{at_file_scope}
+use Rattle.c_tree.specs.Scopes.{Entity, Variable, Function, Known, latest}
 use Rattle.print_laws.proofs.Scoped.{plain, Sees}
-use Rattle.print_laws.proofs.DifferentNames.{IsNew, AreDifferent, new_parts, new_at, same_place, apart_at, different_parts}
+use Rattle.print_laws.proofs.DifferentNames.{IsNew, AreDifferent, same_place, apart_at, different_parts}
 use Rattle.print_laws.proofs.KnownNames.{AllKnown, known_names, none_new, latest_is, entity_is}
 
 -- ---- what a name of a program stands for
@@ -72,7 +71,7 @@ not_both p name m n c a r h g k =
     apart_at (λ (o : Outside). o.name) (λ (f : Func). f.name) p.globals p.funcs m n g.global k.func h g.there k.there (g.named ∙ sym k.named)
 
 -- where the names of a program are different, a name stands for one thing
-pub one_entity : (p : Program) (name : List ℕ) (d e : Entity) → AreDifferent (program_names p) → IsOf p name d → IsOf p name e → plain d ≡ plain e
+one_entity : (p : Program) (name : List ℕ) (d e : Entity) → AreDifferent (program_names p) → IsOf p name d → IsOf p name e → plain d ≡ plain e
 one_entity p name (Variable (Local m) a c) e h g k = absurd g
 one_entity p name (Variable (Global m) a c) (Variable (Local n) b k) h g j = absurd j
 one_entity p name (Variable (Global m) a c) (Variable (Global n) b k) h g j = same_globals p name m n a b h g j

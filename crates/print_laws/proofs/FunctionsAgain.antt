@@ -1,7 +1,6 @@
 -- A function of a printed text is the function of the program, and no fault stands in it.
-use Rattle.std.proofs.Common.{◌≡◌, ◌≤◌, ℕ, Bool, true, false, List, [], ◌∷◌, ◌++◌, length, take, map, Option, Some, None, refl, sym, ap, ◌∙◌, subst, arith, append_assoc, append-nil}
+use Rattle.std.proofs.Common.{◌≡◌, ℕ, false, List, [], ◌∷◌, ◌++◌, length, take, map, None, refl, sym, ap, ◌∙◌, subst, arith, append_assoc, append-nil}
 use Rattle.std.proofs.lemmas.List.{map-append}
-use Rattle.c_tree.specs.declared.tree.Ty.{Ty}
 use Rattle.c_tree.specs.declared.tree.Var.TheVariants.{Local, Global}
 use Rattle.c_tree.specs.declared.program.Local.{Local as Declared}
 use Rattle.c_tree.specs.declared.program.Global.{Global as Outside}
@@ -11,8 +10,8 @@ use Rattle.c_tree.specs.declared.unit.RawFunc.{RawFunc}
 use Rattle.c_tree.specs.declared.unit.RawParam.{RawParam}
 use Rattle.c_tree.specs.declared.unit.RawTop.{RawTop}
 use Rattle.c_tree.specs.declared.unit.RawTop.TheVariants as top
-use Rattle.c_tree.specs.Scopes.{Entity, Variable, Function, Known, entity_of, is_known_at}
-use Rattle.c_tree.specs.Naming.{File, Scope, local_of, declared, list_locals, list_behind, with_func, with_params, func_scope, body_scope, func_of, funcs_of}
+use Rattle.c_tree.specs.Scopes.{Entity, Variable, Function, Known, is_known_at}
+use Rattle.c_tree.specs.Naming.{File, Scope, local_of, declared, list_locals, with_func, with_params, func_scope, body_scope, func_of}
 use Rattle.c_tree.specs.Uses.{Declared as DeclaredUse, declared_at, params_uses, stmts_uses, func_uses}
 use Rattle.c_tree.specs.Refusals.{faults_of}
 use Rattle.typed_laws.proofs.DeclaredLocals.{params_locals}
@@ -26,10 +25,10 @@ use Rattle.print_laws.proofs.ScopesAgain.{declared_follows}
 use Rattle.print_laws.proofs.NamedScopes.{IsNamed, declared_named}
 use Rattle.print_laws.proofs.DeclaredAgain.{declared_once}
 use Rattle.print_laws.proofs.BodiesAgain.{body_again}
-use Rattle.print_laws.proofs.DifferentNames.{IsNew, AreDifferent, new_parts, new_append, new_at_seam}
-use Rattle.print_laws.proofs.KnownNames.{AllKnown, IsShallow, entity_is, shallow_unknown, new_unknown}
-use Rattle.print_laws.proofs.FilesAgain.{global_names, func_names, program_names, IsOf, IsKnownOf, IsPlain, sees_again}
-use Rattle.print_laws.proofs.PrintedKnown.{funcs_known, file_known, printed_known, printed_of, printed_has, printed_shallow, names_of_file, funcs_at, file_at, IsPlainOf}
+use Rattle.print_laws.proofs.DifferentNames.{IsNew, AreDifferent, new_at_seam}
+use Rattle.print_laws.proofs.KnownNames.{AllKnown, entity_is, shallow_unknown, new_unknown}
+use Rattle.print_laws.proofs.FilesAgain.{global_names, func_names, program_names, IsOf, IsKnownOf, sees_again}
+use Rattle.print_laws.proofs.PrintedKnown.{funcs_known, file_known, printed_known, printed_of, printed_has, printed_shallow, names_of_file, funcs_at, file_at}
 use Rattle.print_laws.proofs.FileWalks.{IsTextAt, IsPrintedAt, printed_func, func_known_at, func_shallow}
 
 -- ---- parameters
@@ -39,7 +38,7 @@ pub record AreParamsAgain (s t : Scope) (ps qs : List RawParam) : Type 0 where
   pub follows : Follows (with_params s ps) (with_params t qs)
   pub faultless : AreFaultless (params_uses t qs)
 
-pub params_again : (s t : Scope) (ps qs : List RawParam) → map local_of_param qs ≡ params_locals ps → Follows s t → AreFaultless (params_uses s ps) → AreParamsAgain s t ps qs
+params_again : (s t : Scope) (ps qs : List RawParam) → map local_of_param qs ≡ params_locals ps → Follows s t → AreFaultless (params_uses s ps) → AreParamsAgain s t ps qs
 params_again s t [] [] same h clean = record { follows = h; faultless = refl }
 params_again s t [] (q ∷ qs) same h clean = absurd (cc)
 params_again s t (p ∷ ps) [] same h clean = absurd (cc)
@@ -56,7 +55,7 @@ params_again s t (p ∷ ps) (q ∷ qs) same h clean =
       faultless = faultless_more (declared_at t.known t.depth q.spot) (params_uses again qs) (declared_once s t p.spot q.spot h named parts.0) rest.faultless;
     }
 
-pub params_named : (p : Program) (f : Func) (s : Scope) (ps : List RawParam) (ms : List Declared) → IsNamed p f s (params_locals ps ++ ms) → IsNamed p f (with_params s ps) ms
+params_named : (p : Program) (f : Func) (s : Scope) (ps : List RawParam) (ms : List Declared) → IsNamed p f s (params_locals ps ++ ms) → IsNamed p f (with_params s ps) ms
 params_named p f s [] ms h = h
 params_named p f s (q ∷ ps) ms h =
     params_named p f (declared s false q.ty q.spot.name None) ps ms (declared_named p f s false q.ty q.spot.name None (params_locals ps ++ ms) h)
@@ -85,7 +84,7 @@ names_of_known p f ks all name e found =
     ap (entity_name p f) (sym known.1.1) ∙ named_of p f k.name k.entity known.1.0.0 ∙ known.1.0.1
 
 -- a function's name is new behind the globals and the functions above it
-pub func_new : (p : Program) (fv : File) (above more : List Func) (g : Func) → AreDifferent (program_names p) → IsPrintedAt p fv above (g ∷ more) → is_known_at fv.known 1 g.name ≡ false
+func_new : (p : Program) (fv : File) (above more : List Func) (g : Func) → AreDifferent (program_names p) → IsPrintedAt p fv above (g ∷ more) → is_known_at fv.known 1 g.name ≡ false
 func_new p fv above more g different at =
     let gs = global_names p.globals in
     let names : program_names p ≡ (gs ++ func_names above) ++ g.name ∷ func_names more = ap (λ l. gs ++ func_names l) at.more_funcs ∙ ap (λ l. gs ++ l) (map-append (λ (f : Func). f.name) above (g ∷ more)) ∙ sym (append_assoc gs (func_names above) (g.name ∷ func_names more)) in
@@ -157,4 +156,4 @@ module _ (p : Program) (different : AreDifferent (program_names p)) where
     func_faultless =
         let new : is_known_at fv.known 1 h.spot.name ≡ false = ap (is_known_at fv.known 1) at.shows.named ∙ func_new p fv at.above at.more (func_of fu g) different at.printed in
         faultless_more (declared_at fv.known 1 h.spot) (params_uses (func_scope fv h) h.params ++ stmts_uses (body_scope fv h) h.body) (ap (λ b. faults_of (DeclaredUse h.spot.at b)) new)
-            (faultless_both (params_uses (func_scope fv h) h.params) (stmts_uses (body_scope fv h) h.body) params.faultless body.faultless)
+        (faultless_both (params_uses (func_scope fv h) h.params) (stmts_uses (body_scope fv h) h.body) params.faultless body.faultless)

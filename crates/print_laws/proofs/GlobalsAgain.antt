@@ -1,6 +1,6 @@
 -- The globals of a printed text are those of the program, and no fault stands in their declarations.
-use Rattle.std.proofs.Common.{◌≡◌, ◌≤◌, ℕ, ◌+◌, Bool, true, false, not, ◌&&◌, ◌||◌, List, [], ◌∷◌, ◌++◌, length, map, Option, Some, None, ℤ, refl, sym, ap, ◌∙◌, subst, arith, append_assoc, append-nil, le-leb, le-ltb}
-use Rattle.std.specs.Prelude.{is_some, is_none, nat_le, nat_lt, unwrap_or, option_map}
+use Rattle.std.proofs.Common.{◌≡◌, ◌≤◌, ℕ, Bool, true, false, not, ◌&&◌, ◌||◌, List, [], ◌∷◌, ◌++◌, length, Option, Some, None, ℤ, refl, sym, ap, ◌∙◌, subst, arith, le-leb, le-ltb}
+use Rattle.std.specs.Prelude.{is_some, nat_lt, unwrap_or, option_map}
 use Rattle.std.specs.Option.{option_map_or}
 use Rattle.c_tree.specs.declared.tree.Ty.{Ty}
 use Rattle.c_tree.specs.declared.tree.Ty.TheVariants as ty
@@ -13,10 +13,10 @@ use Rattle.c_tree.specs.declared.unit.RawShape.TheVariants as shape
 use Rattle.c_tree.specs.declared.unit.RawTop.{RawTop}
 use Rattle.c_tree.specs.declared.unit.RawTop.TheVariants as top
 use Rattle.c_tree.specs.Scopes.{Known, is_known_at}
-use Rattle.c_tree.specs.Constants.{array_length, shape_length, constant}
-use Rattle.c_tree.specs.Naming.{File, with_global, behind_top, funcs_of, globals_of, shape_values, kept_numbers}
+use Rattle.c_tree.specs.Constants.{array_length, shape_length}
+use Rattle.c_tree.specs.Naming.{File, with_global, behind_top, funcs_of, globals_of, shape_values}
 use Rattle.c_tree.specs.Uses.{Use, Declared, Sized, sized, declared_at, constant_uses, constants_uses, length_uses, global_uses, outer_uses, top_uses}
-use Rattle.c_tree.specs.Refusals.{ArrayLength, NoInit, where_true, faults_of}
+use Rattle.c_tree.specs.Refusals.{ArrayLength, where_true, faults_of}
 use Rattle.c_tree.specs.WellFormed.{IsLength, AreNumbersOf, WellFormedGlobal}
 use Rattle.print_laws.specs.Shown.{ShowsLength, ShowsValue, ShowValues, ShowsInitial, ShowsDeclaration, ShowsGlobal}
 use Rattle.print_laws.proofs.FaultlessUses.{AreFaultless, faultless_both, faultless_more}
@@ -146,7 +146,7 @@ inner_again f g y sh outer named shown formed new =
       behind = λ i. with_global f false (named i) (is_some (again.sized i));
       made = λ ts i. record { name = named i; ty = g.ty; length = again.sized i; outer = sym outer i; values = again.kept i } ∷ globals_of ts;
       no_func = λ ts. refl;
-          faultless = again.faultless f y (ap (is_known_at f.known 1) named ∙ new);
+      faultless = again.faultless f y (ap (is_known_at f.known 1) named ∙ new);
     }
 
 declaration_again : (f : File) (r : RawTop) (g : Outside) (b : Bool) → g.outer ≡ b → ShowsDeclaration b r g → WellFormedGlobal g → is_known_at f.known 1 g.name ≡ false → IsGlobalAgain f r g

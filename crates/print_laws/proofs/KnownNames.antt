@@ -60,7 +60,7 @@ other_name : (k : Known) (name : List ℕ) (b : Bool) → bytes_eq k.name name �
 other_name k name true e new = absurd (new (sym ((bytes_eq-Decides k.name name).0 e)))
 other_name k name false e new = refl
 
-pub new_none : (ks : List Known) (name : List ℕ) → IsNew name (known_names ks) → latest ks name ≡ None
+new_none : (ks : List Known) (name : List ℕ) → IsNew name (known_names ks) → latest ks name ≡ None
 new_none [] name h = refl
 new_none (k ∷ ks) name h =
     (λ i. option_or (new_none ks name h.1 i) (other_name k name (bytes_eq k.name name) refl h.0 i))
@@ -77,14 +77,14 @@ known_of d e None None other h g = refl
 known_of d e None (Some k) other h g = ne_eqb k.depth d (λ same. other (sym g ∙ same))
 
 -- as each is, and nothing of its name
-pub latest_all : (P : Known → Type 0) (ks : List Known) (name : List ℕ) → AllKnown P ks → IfSome (latest ks name) P
+latest_all : (P : Known → Type 0) (ks : List Known) (name : List ℕ) → AllKnown P ks → IfSome (latest ks name) P
 latest_all P ks name h = first_part (latest ks name) (latest_is P ks name h)
   where
     first_part : (o : Option Known) → IfSome o (λ k. P k × (k.name ≡ name)) → IfSome o P
     first_part None g = tt
     first_part (Some k) g = g.0
 
-pub known_at : (d e : ℕ) (ks ls : List Known) (name : List ℕ) → (e ≡ d → ⊥) → AllKnown (IsAt e) ks → AllKnown (IsAt d) ls → is_known_at (ks ++ ls) d name ≡ is_some (latest ls name)
+known_at : (d e : ℕ) (ks ls : List Known) (name : List ℕ) → (e ≡ d → ⊥) → AllKnown (IsAt e) ks → AllKnown (IsAt d) ls → is_known_at (ks ++ ls) d name ≡ is_some (latest ls name)
 known_at d e ks ls name other h g =
     ap (λ o. option_map_or (λ (k : Known). k.depth == d) o false) (latest_append ks ls name)
     ∙ known_of d e (latest ls name) (latest ks name) other (latest_all (IsAt d) ls name g) (latest_all (IsAt e) ks name h)

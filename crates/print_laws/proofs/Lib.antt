@@ -14,7 +14,6 @@ pub mod ExpressionLists
 pub mod Showable
 pub mod ComposedStatements
 pub mod Scoped
-pub mod BodiesAgain
 pub mod FaultlessUses
 pub mod ExpressionsAgain
 pub mod ScopesAgain
@@ -26,6 +25,7 @@ pub mod CalledAgain
 pub mod BlocksAgain
 pub mod RowsAgain
 pub mod StatementsAgain
+pub mod BodiesAgain
 pub mod DifferentNames
 pub mod KnownNames
 pub mod FilesAgain

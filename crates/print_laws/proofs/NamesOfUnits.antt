@@ -11,8 +11,7 @@ use Rattle.c_tree.specs.declared.unit.RawTop.TheVariants as top
 use Rattle.c_tree.specs.Scopes.{Known, is_known_at}
 use Rattle.c_tree.specs.Naming.{File, with_global, with_func, func_scope, body_scope, behind_top, globals_of, funcs_of}
 use Rattle.c_tree.specs.Uses.{Use, Declared, length_uses, constant_uses, constants_uses, declared_at, sized, params_uses, stmts_uses, global_uses, outer_uses, top_uses, tops_uses}
-use Rattle.c_tree.specs.Refusals.{Twice, faults_of}
-use Rattle.typed_laws.proofs.Faultless.{first_none}
+use Rattle.c_tree.specs.Refusals.{faults_of}
 use Rattle.print_laws.proofs.FaultlessUses.{AreFaultless, faultless_parts, faultless_first}
 use Rattle.print_laws.proofs.DifferentNames.{IsNew, AreDifferent, AreNew, new_parts, new_append, are_new_parts, different_middle}
 use Rattle.print_laws.proofs.KnownNames.{AllKnown, IsAt, known_names, all_append, unknown_new}

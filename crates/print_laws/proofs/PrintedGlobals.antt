@@ -1,13 +1,11 @@
 -- Behind its globals a printed text has them all, and no fault so far.
-use Rattle.std.proofs.Common.{◌≡◌, ℕ, ◌+◌, Bool, true, false, List, [], ◌∷◌, ◌++◌, length, map, refl, sym, ap, ◌∙◌, subst, arith, append_assoc, append-nil}
-use Rattle.std.specs.Prelude.{is_some}
+use Rattle.std.proofs.Common.{◌≡◌, ℕ, ◌+◌, Bool, true, false, List, [], ◌∷◌, ◌++◌, length, refl, sym, ap, ◌∙◌, subst, arith, append_assoc, append-nil}
 use Rattle.std.proofs.lemmas.List.{map-append}
 use Rattle.c_tree.specs.declared.program.Global.{Global as Outside}
-use Rattle.c_tree.specs.declared.program.Func.{Func}
 use Rattle.c_tree.specs.declared.program.Program.{Program}
 use Rattle.c_tree.specs.declared.unit.RawTop.{RawTop}
 use Rattle.c_tree.specs.Scopes.{is_known_at}
-use Rattle.c_tree.specs.Naming.{File, with_global, behind_top, known_funcs, funcs_of, globals_of}
+use Rattle.c_tree.specs.Naming.{File, behind_top, known_funcs, funcs_of, globals_of}
 use Rattle.c_tree.specs.Uses.{top_uses, tops_uses}
 use Rattle.c_tree.specs.WellFormed.{WellFormedGlobals}
 use Rattle.typed_laws.proofs.FileScope.{length_more}

@@ -1,5 +1,5 @@
 -- What is known at file scope in a printed text: the functions of the whole text, the globals, and the functions so far.
-use Rattle.std.proofs.Common.{◌≡◌, ◌≤◌, ℕ, ◌+◌, Bool, true, false, List, [], ◌∷◌, ◌++◌, length, map, Option, Some, None, refl, sym, ap, ◌∙◌, subst, arith, append_assoc, append-nil}
+use Rattle.std.proofs.Common.{◌≡◌, ◌≤◌, ℕ, ◌+◌, false, List, [], ◌∷◌, ◌++◌, length, Some, refl, sym, ap, ◌∙◌, subst, arith, append_assoc, append-nil}
 use Rattle.std.specs.Prelude.{is_some, slice_get}
 use Rattle.std.proofs.lemmas.List.{map-append}
 use Rattle.c_tree.specs.declared.tree.Var.TheVariants.{Local, Global}
@@ -11,7 +11,7 @@ use Rattle.c_tree.specs.Naming.{at_file_scope}
 use Rattle.typed_laws.proofs.FileScope.{get_seam, length_more}
 use Rattle.print_laws.proofs.DifferentNames.{IsNew, new_parts, new_at}
 use Rattle.print_laws.proofs.KnownNames.{AllKnown, IsAt, IsShallow, known_names, all_append}
-use Rattle.print_laws.proofs.FilesAgain.{global_names, func_names, program_names, IsKnownOf, IsOf, IsPlain, HasNames}
+use Rattle.print_laws.proofs.FilesAgain.{global_names, func_names, IsKnownOf, IsOf, IsPlain, HasNames}
 
 -- a function of a number, known at a depth
 abbrev pub func_known : ℕ → ℕ → Func → Known
@@ -52,7 +52,7 @@ globals_known_more n (h ∷ gs) g =
 
 -- ---- names and depths
 
-pub names_of_funcs : (d n : ℕ) (fs : List Func) → known_names (funcs_known d n fs) ≡ func_names fs
+names_of_funcs : (d n : ℕ) (fs : List Func) → known_names (funcs_known d n fs) ≡ func_names fs
 names_of_funcs d n [] = refl
 names_of_funcs d n (f ∷ fs) = ap (λ ns. f.name ∷ ns) (names_of_funcs d (n + 1) fs)
 
@@ -94,7 +94,7 @@ funcs_of_program p d n before (f ∷ fs) after all count =
     let here : slice_get p.funcs n ≡ Some f = ap (λ gs. slice_get gs n) all ∙ ap (λ k. slice_get (before ++ f ∷ (fs ++ after)) k) (sym count) ∙ get_seam before f (fs ++ after) in
     ((record { func = f; there = here; named = refl; params_are = refl; result_is = refl }, refl), funcs_of_program p d (n + 1) (before ++ f ∷ []) fs after (all ∙ sym (append_assoc before (f ∷ []) (fs ++ after))) (length_more before f n count))
 
-pub globals_of_program : (p : Program) (n : ℕ) (before gs : List Outside) → p.globals ≡ before ++ gs → length before ≡ n → AllKnown (IsPlainOf p) (globals_known n gs)
+globals_of_program : (p : Program) (n : ℕ) (before gs : List Outside) → p.globals ≡ before ++ gs → length before ≡ n → AllKnown (IsPlainOf p) (globals_known n gs)
 globals_of_program p n before [] all count = tt
 globals_of_program p n before (g ∷ gs) all count =
     let here : slice_get p.globals n ≡ Some g = ap (λ hs. slice_get hs n) all ∙ ap (λ k. slice_get (before ++ g ∷ gs) k) (sym count) ∙ get_seam before g gs in
@@ -104,7 +104,7 @@ pub printed_of : (p : Program) (above more : List Func) → p.funcs ≡ above ++
 printed_of p above more all =
     let whole : p.funcs ≡ p.funcs ++ [] = sym (append-nil p.funcs) in
     all_append (IsPlainOf p) (funcs_known 0 0 p.funcs) (file_known p above) (funcs_of_program p 0 0 [] p.funcs [] whole refl)
-        (all_append (IsPlainOf p) (globals_known 0 p.globals) (funcs_known 1 0 above) (globals_of_program p 0 [] p.globals refl refl) (funcs_of_program p 1 0 [] above more all refl))
+    (all_append (IsPlainOf p) (globals_known 0 p.globals) (funcs_known 1 0 above) (globals_of_program p 0 [] p.globals refl refl) (funcs_of_program p 1 0 [] above more all refl))
 
 -- ---- each name of the program is there
 

@@ -1,6 +1,6 @@
 -- An expression that shows a kept value is a constant of this value.
-use Rattle.std.proofs.Common.{◌≡◌, ℕ, suc, ◌<◌, ◌^◌, ◌-◌, Bool, true, false, cond, List, [], ◌∷◌, ◌++◌, length, Option, Some, None, ℤ, pos, negsuc, refl, sym, ap, ◌∙◌, subst, arith, eqb-true, lt-ltb, ltb-true}
-use Rattle.std.specs.Prelude.{IsTrue, is_none, if◌then◌else◌, ◌==◌, nat_lt}
+use Rattle.std.proofs.Common.{◌≡◌, ℕ, suc, ◌<◌, ◌^◌, ◌-◌, Bool, true, false, List, [], ◌∷◌, ◌++◌, length, Some, None, ℤ, pos, negsuc, refl, sym, ap, ◌∙◌, subst, arith, eqb-true, lt-ltb, ltb-true}
+use Rattle.std.specs.Prelude.{IsTrue, if◌then◌else◌, ◌==◌}
 use Rattle.std.specs.Int.{cast_signed, w32}
 use Rattle.std.proofs.lemmas.Bool.{eqb-false}
 use Rattle.std.proofs.Math.Facts.{to_z-of_z}
@@ -14,8 +14,8 @@ use Rattle.c_tree.specs.declared.unit.RawExpr.TheVariants as e
 use Rattle.c_tree.specs.declared.unit.RawExpr.TheBlock.{shape-the_row-RawExpr-0, hidden-the_row-RawExpr-0}
 use denote.Hole.Carrier.{hidden}
 use Rattle.c_tree.specs.declared.value.Value.{Value}
-use Rattle.c_tree.specs.declared.value.Value.TheVariants.{Int, Unsigned}
-use Rattle.c_tree.specs.Values.{is_of, of_int, convert}
+use Rattle.c_tree.specs.declared.value.Value.TheVariants.{Int}
+use Rattle.c_tree.specs.Values.{is_of, of_int}
 use Rattle.c_tree.specs.Operators.{int, unary}
 use Rattle.c_tree.specs.Expressions.{val, row_val}
 use Rattle.c_tree.specs.Scopes.{Known}
@@ -56,7 +56,7 @@ unfolding constant has_name expr_of val
 num_constant at n ty.Int h = ap (λ z. Some (Int z)) (int_stays n (ltb-true n (2 ^ 31) h))
 num_constant at n ty.Unsigned h = refl
 
-pub shown_constant : (t : Ty) (a : RawExpr) (z : ℤ) → ShowsValue t a z → IsTrue (is_of t z) → constant a ≡ Some (of_int t z)
+shown_constant : (t : Ty) (a : RawExpr) (z : ℤ) → ShowsValue t a z → IsTrue (is_of t z) → constant a ≡ Some (of_int t z)
 shown_constant t a (pos n) (at, is) h = ap constant is ∙ num_constant at n t h
 shown_constant ty.Int a (negsuc n) (at, from, is) h =
     ap constant is ∙ negative_constant at from n (n == 2 ^ 31 - 1) refl (ltb-true n (2 ^ 31) h)
@@ -98,7 +98,7 @@ shown_nameless : (ks : List Known) (t : Ty) (a : RawExpr) (z : ℤ) → ShowsVal
 shown_nameless ks t a (pos n) (at, is) = ap (expr_uses ks) is ∙ num_nameless ks at n t
 shown_nameless ks t a (negsuc n) (at, from, is) = ap (expr_uses ks) is ∙ negative_nameless ks at from n t (n == 2 ^ 31 - 1)
 
-pub constant_faultless : (ks : List Known) (a : RawExpr) (v : Value) → expr_uses ks a ≡ [] → constant a ≡ Some v → AreFaultless (constant_uses ks a)
+constant_faultless : (ks : List Known) (a : RawExpr) (v : Value) → expr_uses ks a ≡ [] → constant a ≡ Some v → AreFaultless (constant_uses ks a)
 constant_faultless ks a v nameless is =
     let same : constant_uses ks a ≡ Constant (first_token a) (Some v) ∷ [] = (λ i. nameless i ++ Constant (first_token a) (is i) ∷ []) in
     subst AreFaultless (sym same) refl

@@ -25,7 +25,7 @@ use Rattle.print_laws.proofs.FilesAgain.{program_names, global_names, func_names
 use Rattle.print_laws.proofs.PrintedKnown.{funcs_known, funcs_at}
 use Rattle.print_laws.proofs.NamesOfUnits.{names_different, program_different}
 use Rattle.print_laws.proofs.FileWalks.{IsTextAt, IsPrintedAt, known_funcs_are, known_funcs_shown, text_started, text_outer, text_inner, text_func, printed_func}
-use Rattle.print_laws.proofs.PrintedGlobals.{AreGlobalsAgain, known_behind, globals_again}
+use Rattle.print_laws.proofs.PrintedGlobals.{known_behind, globals_again}
 use Rattle.print_laws.proofs.FunctionsAgain.{AreAt, func_again, func_faultless}
 use Rattle.print_laws.proofs.EntriesAgain.{not_named, unit_faultless}
 
