@@ -27,10 +27,6 @@ pub new_parts : (name : List ℕ) (ms ns : List (List ℕ)) → IsNew name (ms +
 new_parts name [] ns h = (tt, h)
 new_parts name (m ∷ ms) ns h = let rest = new_parts name ms ns h.1 in ((h.0, rest.0), rest.1)
 
-pub are_new_none : (ms : List (List ℕ)) → AreNew ms []
-are_new_none [] = tt
-are_new_none (m ∷ ms) = (tt, are_new_none ms)
-
 -- names that are none of some and of one more
 pub are_new_parts : (ms ns : List (List ℕ)) (name : List ℕ) → AreNew ms (ns ++ name ∷ []) → AreNew ms ns × IsNew name ms
 are_new_parts [] ns name h = (tt, tt)

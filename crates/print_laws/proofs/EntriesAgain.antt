@@ -47,6 +47,7 @@ few_again v entry formed named =
 
 -- ---- spans
 
+-- no span is above 2^64
 abbrev AreNarrow : List ℕ → Type 0
 AreNarrow [] = Unit {0}
 AreNarrow (s ∷ ss) = (s ≤ 2 ^ 64) × AreNarrow ss

@@ -29,7 +29,7 @@ known_funcs_are n f (top.Global kept constant t x sh ∷ ts) = known_funcs_are n
 known_funcs_are n f (top.Func g ∷ ts) = ap (λ ks. func_known 0 n (func_of f g) ∷ ks) (known_funcs_are (n + 1) (with_func f g) ts)
 
 -- a printed function is known as the function
-pub shown_known : (p : Program) (d n : ℕ) (h : RawFunc) (g : Func) → ShowsFunc p h g → record { name = h.spot.name; depth = d; entity = Function n (length h.params) h.result } ≡ func_known d n g
+shown_known : (p : Program) (d n : ℕ) (h : RawFunc) (g : Func) → ShowsFunc p h g → record { name = h.spot.name; depth = d; entity = Function n (length h.params) h.result } ≡ func_known d n g
 shown_known p d n h g shows =
     (λ i. record { name = shows.named i; depth = d; entity = Function n (shows.count i) (shows.result i) })
 

@@ -14,9 +14,11 @@ use Rattle.print_laws.proofs.KnownNames.{AllKnown, known_names, none_new, latest
 
 -- ---- what a name of a program stands for
 
+-- the names of globals
 abbrev pub global_names : List Outside → List (List ℕ)
 global_names gs = map (λ (g : Outside). g.name) gs
 
+-- the names of functions
 abbrev pub func_names : List Func → List (List ℕ)
 func_names fs = map (λ (f : Func). f.name) fs
 
@@ -39,11 +41,13 @@ pub record IsFunctionOf (p : Program) (name : List ℕ) (n params : ℕ) (result
   pub params_are : func.params ≡ params
   pub result_is : func.result ≡ result
 
+-- a name stands for a global or a function of the program that has it
 abbrev pub IsOf : Program → List ℕ → Entity → Type 0
 IsOf p name (Variable (Local n) array constant) = ⊥
 IsOf p name (Variable (Global n) array constant) = IsGlobalOf p name n array
 IsOf p name (Function n params result) = IsFunctionOf p name n params result
 
+-- a known name stands for what has it
 abbrev pub IsKnownOf : Program → Known → Type 0
 IsKnownOf p k = IsOf p k.name k.entity
 
@@ -71,7 +75,7 @@ not_both p name m n c a r h g k =
     apart_at (λ (o : Outside). o.name) (λ (f : Func). f.name) p.globals p.funcs m n g.global k.func h g.there k.there (g.named ∙ sym k.named)
 
 -- where the names of a program are different, a name stands for one thing
-pub one_entity : (p : Program) (name : List ℕ) (d e : Entity) → AreDifferent (program_names p) → IsOf p name d → IsOf p name e → plain d ≡ plain e
+one_entity : (p : Program) (name : List ℕ) (d e : Entity) → AreDifferent (program_names p) → IsOf p name d → IsOf p name e → plain d ≡ plain e
 one_entity p name (Variable (Local m) a c) e h g k = absurd g
 one_entity p name (Variable (Global m) a c) (Variable (Local n) b k) h g j = absurd j
 one_entity p name (Variable (Global m) a c) (Variable (Global n) b k) h g j = same_globals p name m n a b h g j
@@ -82,6 +86,7 @@ one_entity p name (Function m c r) (Function n d t) h g j = same_functions p nam
 
 -- ---- seen again
 
+-- not `const`
 abbrev pub IsPlain : Known → Type 0
 IsPlain k = plain k.entity ≡ k.entity
 

@@ -38,7 +38,7 @@ pub record AreParamsAgain (s t : Scope) (ps qs : List RawParam) : Type 0 where
   pub follows : Follows (with_params s ps) (with_params t qs)
   pub faultless : AreFaultless (params_uses t qs)
 
-pub params_again : (s t : Scope) (ps qs : List RawParam) → map local_of_param qs ≡ params_locals ps → Follows s t → AreFaultless (params_uses s ps) → AreParamsAgain s t ps qs
+params_again : (s t : Scope) (ps qs : List RawParam) → map local_of_param qs ≡ params_locals ps → Follows s t → AreFaultless (params_uses s ps) → AreParamsAgain s t ps qs
 params_again s t [] [] same h clean = record { follows = h; faultless = refl }
 params_again s t [] (q ∷ qs) same h clean = absurd (cc)
 params_again s t (p ∷ ps) [] same h clean = absurd (cc)
@@ -55,7 +55,7 @@ params_again s t (p ∷ ps) (q ∷ qs) same h clean =
       faultless = faultless_more (declared_at t.known t.depth q.spot) (params_uses again qs) (declared_once s t p.spot q.spot h named parts.0) rest.faultless;
     }
 
-pub params_named : (p : Program) (f : Func) (s : Scope) (ps : List RawParam) (ms : List Declared) → IsNamed p f s (params_locals ps ++ ms) → IsNamed p f (with_params s ps) ms
+params_named : (p : Program) (f : Func) (s : Scope) (ps : List RawParam) (ms : List Declared) → IsNamed p f s (params_locals ps ++ ms) → IsNamed p f (with_params s ps) ms
 params_named p f s [] ms h = h
 params_named p f s (q ∷ ps) ms h =
     params_named p f (declared s false q.ty q.spot.name None) ps ms (declared_named p f s false q.ty q.spot.name None (params_locals ps ++ ms) h)
@@ -84,7 +84,7 @@ names_of_known p f ks all name e found =
     ap (entity_name p f) (sym known.1.1) ∙ named_of p f k.name k.entity known.1.0.0 ∙ known.1.0.1
 
 -- a function's name is new behind the globals and the functions above it
-pub func_new : (p : Program) (fv : File) (above more : List Func) (g : Func) → AreDifferent (program_names p) → IsPrintedAt p fv above (g ∷ more) → is_known_at fv.known 1 g.name ≡ false
+func_new : (p : Program) (fv : File) (above more : List Func) (g : Func) → AreDifferent (program_names p) → IsPrintedAt p fv above (g ∷ more) → is_known_at fv.known 1 g.name ≡ false
 func_new p fv above more g different at =
     let gs = global_names p.globals in
     let names : program_names p ≡ (gs ++ func_names above) ++ g.name ∷ func_names more = ap (λ l. gs ++ func_names l) at.more_funcs ∙ ap (λ l. gs ++ l) (map-append (λ (f : Func). f.name) above (g ∷ more)) ∙ sym (append_assoc gs (func_names above) (g.name ∷ func_names more)) in

@@ -25,6 +25,7 @@ use Rattle.print_laws.proofs.ShownConstants.{shown_kept, shown_numbers, shown_co
 
 -- ---- parts of a declaration
 
+-- a length as it is printed
 abbrev literal : ℕ → ℕ → RawExpr
 literal at m = e.Num at ty.Int m
 

@@ -11,6 +11,7 @@ abbrev pub AllKnown : (Known → Type 0) → List Known → Type 0
 AllKnown P [] = Unit {0}
 AllKnown P (k ∷ ks) = P k × AllKnown P ks
 
+-- their names
 abbrev pub known_names : List Known → List (List ℕ)
 known_names ks = map (λ (k : Known). k.name) ks
 
@@ -50,7 +51,7 @@ none_before k name None true e h = absurd (cc)
 none_before k name None false e h =
     (λ same. let there = (bytes_eq-Decides k.name name).1 (sym same) in absurd (cc), refl)
 
--- there is none of a new name, and only of one
+-- there is none of a name, exactly where it is new
 pub none_new : (ks : List Known) (name : List ℕ) → latest ks name ≡ None → IsNew name (known_names ks)
 none_new [] name h = tt
 none_new (k ∷ ks) name h =
@@ -60,13 +61,14 @@ other_name : (k : Known) (name : List ℕ) (b : Bool) → bytes_eq k.name name �
 other_name k name true e new = absurd (new (sym ((bytes_eq-Decides k.name name).0 e)))
 other_name k name false e new = refl
 
-pub new_none : (ks : List Known) (name : List ℕ) → IsNew name (known_names ks) → latest ks name ≡ None
+new_none : (ks : List Known) (name : List ℕ) → IsNew name (known_names ks) → latest ks name ≡ None
 new_none [] name h = refl
 new_none (k ∷ ks) name h =
     (λ i. option_or (new_none ks name h.1 i) (other_name k name (bytes_eq k.name name) refl h.0 i))
 
 -- ---- at a depth
 
+-- known in the scope of this depth
 abbrev pub IsAt : ℕ → Known → Type 0
 IsAt d k = k.depth ≡ d
 
@@ -77,14 +79,15 @@ known_of d e None None other h g = refl
 known_of d e None (Some k) other h g = ne_eqb k.depth d (λ same. other (sym g ∙ same))
 
 -- as each is, and nothing of its name
-pub latest_all : (P : Known → Type 0) (ks : List Known) (name : List ℕ) → AllKnown P ks → IfSome (latest ks name) P
+latest_all : (P : Known → Type 0) (ks : List Known) (name : List ℕ) → AllKnown P ks → IfSome (latest ks name) P
 latest_all P ks name h = first_part (latest ks name) (latest_is P ks name h)
   where
     first_part : (o : Option Known) → IfSome o (λ k. P k × (k.name ≡ name)) → IfSome o P
     first_part None g = tt
     first_part (Some k) g = g.0
 
-pub known_at : (d e : ℕ) (ks ls : List Known) (name : List ℕ) → (e ≡ d → ⊥) → AllKnown (IsAt e) ks → AllKnown (IsAt d) ls → is_known_at (ks ++ ls) d name ≡ is_some (latest ls name)
+-- in the scopes of both depths, only the one asked for counts
+known_at : (d e : ℕ) (ks ls : List Known) (name : List ℕ) → (e ≡ d → ⊥) → AllKnown (IsAt e) ks → AllKnown (IsAt d) ls → is_known_at (ks ++ ls) d name ≡ is_some (latest ls name)
 known_at d e ks ls name other h g =
     ap (λ o. option_map_or (λ (k : Known). k.depth == d) o false) (latest_append ks ls name)
     ∙ known_of d e (latest ls name) (latest ks name) other (latest_all (IsAt d) ls name g) (latest_all (IsAt e) ks name h)
@@ -104,6 +107,7 @@ new_unknown ks ls name h g new =
 
 -- ---- what a name stands for
 
+-- known at file scope or in the whole unit
 abbrev pub IsShallow : Known → Type 0
 IsShallow k = k.depth ≤ 1
 

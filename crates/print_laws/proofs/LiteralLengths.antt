@@ -13,7 +13,7 @@ use Rattle.c_tree.specs.Uses.{expr_uses, length_uses}
 use Rattle.print_laws.proofs.FaultlessUses.{AreFaultless}
 
 -- a small number is an `int` as it stands
-small_int : (m : ℕ) → m < 2 ^ 31 → cast_signed w32 m ≡ pos m
+pub small_int : (m : ℕ) → m < 2 ^ 31 → cast_signed w32 m ≡ pos m
 small_int m h = to_z-of_z {w = w32} {z = pos m} (record { sfits = h })
 
 pub literal_length : (at m : ℕ) (es : Option (List RawExpr)) → m ≤ 64 → array_length (Some (e.Num at ty.Int m)) es ≡ m

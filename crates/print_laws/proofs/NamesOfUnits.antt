@@ -23,6 +23,7 @@ top_name (top.Outer constant t x e) = x.name
 top_name (top.Global kept constant t x sh) = x.name
 top_name (top.Func g) = g.spot.name
 
+-- the names that declarations declare
 abbrev pub top_names : List RawTop → List (List ℕ)
 top_names ts = map top_name ts
 

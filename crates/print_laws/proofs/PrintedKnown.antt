@@ -17,6 +17,7 @@ use Rattle.print_laws.proofs.FilesAgain.{global_names, func_names, IsKnownOf, Is
 abbrev pub func_known : ℕ → ℕ → Func → Known
 func_known d n f = record { name = f.name; depth = d; entity = Function n f.params f.result }
 
+-- functions numbered from n on
 abbrev pub funcs_known : ℕ → ℕ → List Func → List Known
 funcs_known d n [] = []
 funcs_known d n (f ∷ fs) = func_known d n f ∷ funcs_known d (n + 1) fs
@@ -25,6 +26,7 @@ funcs_known d n (f ∷ fs) = func_known d n f ∷ funcs_known d (n + 1) fs
 abbrev pub global_known : ℕ → Outside → Known
 global_known n g = at_file_scope g.name (Variable (Global n) (is_some g.length) false)
 
+-- globals numbered from n on
 abbrev pub globals_known : ℕ → List Outside → List Known
 globals_known n [] = []
 globals_known n (g ∷ gs) = global_known n g ∷ globals_known (n + 1) gs
@@ -33,6 +35,7 @@ globals_known n (g ∷ gs) = global_known n g ∷ globals_known (n + 1) gs
 abbrev pub file_known : Program → List Func → List Known
 file_known p above = globals_known 0 p.globals ++ funcs_known 1 0 above
 
+-- and before them the functions of the whole text
 abbrev pub printed_known : Program → List Func → List Known
 printed_known p above = funcs_known 0 0 p.funcs ++ file_known p above
 
@@ -52,7 +55,7 @@ globals_known_more n (h ∷ gs) g =
 
 -- ---- names and depths
 
-pub names_of_funcs : (d n : ℕ) (fs : List Func) → known_names (funcs_known d n fs) ≡ func_names fs
+names_of_funcs : (d n : ℕ) (fs : List Func) → known_names (funcs_known d n fs) ≡ func_names fs
 names_of_funcs d n [] = refl
 names_of_funcs d n (f ∷ fs) = ap (λ ns. f.name ∷ ns) (names_of_funcs d (n + 1) fs)
 
@@ -85,6 +88,7 @@ printed_shallow p above =
 
 -- ---- each is of the program
 
+-- of the program, and not `const`
 abbrev pub IsPlainOf : Program → Known → Type 0
 IsPlainOf p k = IsKnownOf p k × IsPlain k
 
@@ -94,7 +98,7 @@ funcs_of_program p d n before (f ∷ fs) after all count =
     let here : slice_get p.funcs n ≡ Some f = ap (λ gs. slice_get gs n) all ∙ ap (λ k. slice_get (before ++ f ∷ (fs ++ after)) k) (sym count) ∙ get_seam before f (fs ++ after) in
     ((record { func = f; there = here; named = refl; params_are = refl; result_is = refl }, refl), funcs_of_program p d (n + 1) (before ++ f ∷ []) fs after (all ∙ sym (append_assoc before (f ∷ []) (fs ++ after))) (length_more before f n count))
 
-pub globals_of_program : (p : Program) (n : ℕ) (before gs : List Outside) → p.globals ≡ before ++ gs → length before ≡ n → AllKnown (IsPlainOf p) (globals_known n gs)
+globals_of_program : (p : Program) (n : ℕ) (before gs : List Outside) → p.globals ≡ before ++ gs → length before ≡ n → AllKnown (IsPlainOf p) (globals_known n gs)
 globals_of_program p n before [] all count = tt
 globals_of_program p n before (g ∷ gs) all count =
     let here : slice_get p.globals n ≡ Some g = ap (λ hs. slice_get hs n) all ∙ ap (λ k. slice_get (before ++ g ∷ gs) k) (sym count) ∙ get_seam before g gs in

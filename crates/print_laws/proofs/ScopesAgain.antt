@@ -11,23 +11,13 @@ use Rattle.c_tree.specs.declared.program.Program.{Program}
 use Rattle.c_tree.specs.Scopes.{Entity, Variable, Known, latest}
 use Rattle.c_tree.specs.Naming.{Scope, local_of, declared, opened, looping, past}
 use Rattle.print_laws.proofs.Scoped.{plain, Sees, ScopeAlike, Follows, entity_name, AreNames}
+use Rattle.print_laws.proofs.KnownNames.{latest_append}
 
 -- ---- one more name
 
-option_or_none : {A : Type 0} (a : Option A) → option_or a None ≡ a
-option_or_none None = refl
-option_or_none (Some x) = refl
-
-option_or_assoc : {A : Type 0} (a b c : Option A) → option_or (option_or a b) c ≡ option_or a (option_or b c)
-option_or_assoc None b c = refl
-option_or_assoc (Some x) b c = refl
-
 -- the last one is found first
 latest_more : (ks : List Known) (k : Known) (name : List ℕ) → latest (ks ++ k ∷ []) name ≡ option_or (if bytes_eq k.name name then Some k else None) (latest ks name)
-latest_more [] k name = sym (option_or_none (if bytes_eq k.name name then Some k else None))
-latest_more (j ∷ ks) k name =
-    ap (λ o. option_or o (if bytes_eq j.name name then Some j else None)) (latest_more ks k name)
-    ∙ option_or_assoc (if bytes_eq k.name name then Some k else None) (latest ks name) (if bytes_eq j.name name then Some j else None)
+latest_more ks k name = latest_append ks (k ∷ []) name
 
 -- the last one, where it has the name, and else what is found among the others
 abbrev found : Bool → Known → List Known → List ℕ → Option Known

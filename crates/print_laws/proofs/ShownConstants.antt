@@ -1,9 +1,7 @@
 -- An expression that shows a kept value is a constant of this value.
 use Rattle.std.proofs.Common.{◌≡◌, ℕ, suc, ◌<◌, ◌^◌, ◌-◌, Bool, true, false, List, [], ◌∷◌, ◌++◌, length, Some, None, ℤ, pos, negsuc, refl, sym, ap, ◌∙◌, subst, arith, eqb-true, lt-ltb, ltb-true}
 use Rattle.std.specs.Prelude.{IsTrue, if◌then◌else◌, ◌==◌}
-use Rattle.std.specs.Int.{cast_signed, w32}
 use Rattle.std.proofs.lemmas.Bool.{eqb-false}
-use Rattle.std.proofs.Math.Facts.{to_z-of_z}
 use Rattle.std.proofs.Math.IntN.{+ℤ_idl}
 use Rattle.c_tree.specs.declared.tree.Ty.{Ty}
 use Rattle.c_tree.specs.declared.tree.Ty.TheVariants as ty
@@ -24,11 +22,8 @@ use Rattle.c_tree.specs.Naming.{kept_numbers}
 use Rattle.c_tree.specs.Uses.{Constant, expr_uses, row_uses, constant_uses, constants_uses}
 use Rattle.c_tree.specs.WellFormed.{AreNumbersOf}
 use Rattle.print_laws.specs.Shown.{ShowsValue, ShowValues}
+use Rattle.print_laws.proofs.LiteralLengths.{small_int}
 use Rattle.print_laws.proofs.FaultlessUses.{AreFaultless, faultless_both}
-
--- a number of `int` as it stands
-int_stays : (n : ℕ) → n < 2 ^ 31 → cast_signed w32 n ≡ pos n
-int_stays n h = to_z-of_z {w = w32} {z = pos n} (record { sfits = h })
 
 -- ---- the value
 
@@ -42,7 +37,7 @@ negated n h = ap int (+ℤ_idl (negsuc n)) ∙ ap (λ b. if b then Some (Int (ne
 minus_constant : (at from n : ℕ) → suc n < 2 ^ 31 → constant (e.Un at un.Minus (e.Num from ty.Int (suc n))) ≡ Some (Int (negsuc n))
 unfolding constant has_name row_has_name expr_of row_expr val row_val shape-the_row-Expr-0 hidden-the_row-Expr-0 shape-the_row-RawExpr-0 hidden-the_row-RawExpr-0 hidden
 minus_constant at from n h =
-    ap (λ z. unary un.Minus (Int z)) (int_stays (suc n) h) ∙ negated n (omega (arith, h))
+    ap (λ z. unary un.Minus (Int z)) (small_int (suc n) h) ∙ negated n (omega (arith, h))
 
 negative_constant : (at from n : ℕ) (b : Bool) → (n == 2 ^ 31 - 1) ≡ b → n < 2 ^ 31
     → constant (if b then e.Cast at ty.Int (e.Num from ty.Unsigned 2147483648) else e.Un at un.Minus (e.Num from ty.Int (suc n))) ≡ Some (Int (negsuc n))
@@ -53,10 +48,10 @@ negative_constant at from n false other h =
 
 num_constant : (at n : ℕ) (t : Ty) → IsTrue (is_of t (pos n)) → constant (e.Num at t n) ≡ Some (of_int t (pos n))
 unfolding constant has_name expr_of val
-num_constant at n ty.Int h = ap (λ z. Some (Int z)) (int_stays n (ltb-true n (2 ^ 31) h))
+num_constant at n ty.Int h = ap (λ z. Some (Int z)) (small_int n (ltb-true n (2 ^ 31) h))
 num_constant at n ty.Unsigned h = refl
 
-pub shown_constant : (t : Ty) (a : RawExpr) (z : ℤ) → ShowsValue t a z → IsTrue (is_of t z) → constant a ≡ Some (of_int t z)
+shown_constant : (t : Ty) (a : RawExpr) (z : ℤ) → ShowsValue t a z → IsTrue (is_of t z) → constant a ≡ Some (of_int t z)
 shown_constant t a (pos n) (at, is) h = ap constant is ∙ num_constant at n t h
 shown_constant ty.Int a (negsuc n) (at, from, is) h =
     ap constant is ∙ negative_constant at from n (n == 2 ^ 31 - 1) refl (ltb-true n (2 ^ 31) h)
@@ -98,7 +93,7 @@ shown_nameless : (ks : List Known) (t : Ty) (a : RawExpr) (z : ℤ) → ShowsVal
 shown_nameless ks t a (pos n) (at, is) = ap (expr_uses ks) is ∙ num_nameless ks at n t
 shown_nameless ks t a (negsuc n) (at, from, is) = ap (expr_uses ks) is ∙ negative_nameless ks at from n t (n == 2 ^ 31 - 1)
 
-pub constant_faultless : (ks : List Known) (a : RawExpr) (v : Value) → expr_uses ks a ≡ [] → constant a ≡ Some v → AreFaultless (constant_uses ks a)
+constant_faultless : (ks : List Known) (a : RawExpr) (v : Value) → expr_uses ks a ≡ [] → constant a ≡ Some v → AreFaultless (constant_uses ks a)
 constant_faultless ks a v nameless is =
     let same : constant_uses ks a ≡ Constant (first_token a) (Some v) ∷ [] = (λ i. nameless i ++ Constant (first_token a) (is i) ∷ []) in
     subst AreFaultless (sym same) refl
