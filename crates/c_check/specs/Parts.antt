@@ -1,4 +1,4 @@
--- What a unit with its names replaced by numbers is a program of.
+-- The program that a unit with its names replaced by numbers is, where no fault stands.
 use Rattle.c_tree.specs.Programs.{Program}
 use Rattle.c_check.specs.declared.checking.Named.{Named}
 

@@ -1,12 +1,13 @@
-//! Small units and what is told of them; in each comment the unit's text, as far as it matters.
+//! Small units built by hand and what is told of them; in each comment the unit's text, as far as it matters. No text is shown
+//! to spell them, so they go to the function below `check`, which takes any unit.
 
 use crate::CheckFault;
 use crate::checking::faultless;
 use c_tree::{
-    Name, NoMemory, Program, RawBound, RawExpr, RawFunc, RawParam, RawShape, RawStmt, RawTarget,
-    RawTop, Spot, Ty, Unit,
+    Name, NoMemory, RawBound, RawExpr, RawFunc, RawShape, RawStmt, RawTarget, RawTop, Spot, Ty,
+    Unit,
 };
-use sqlite_items::{Boxed, Items};
+use sqlite_items::Items;
 use std::alloc::Global;
 
 fn spot(alloc: Global, name: &[u8], at: u32) -> Result<Spot, NoMemory> {
@@ -104,13 +105,13 @@ fn the_empty_text_has_no_entry(rt: HostRuntime) {
 }
 
 #[test]
-fn a_program_is_answered(rt: HostRuntime) {
+fn the_parts_of_a_program_are_answered(rt: HostRuntime) {
     let alloc = rt.alloc();
     // int main(void) { int x; }
     let x = declared(alloc, b"x", 21).expect(&rt, "memory");
     let unit = main_of(alloc, x).expect(&rt, "memory");
-    let program = faultless(alloc, &unit, "main").expect(&rt, "a program");
-    assert!(rt; program.entry == 0 && program.globals.len() == 0 && program.funcs.len() == 1);
+    let named = faultless(alloc, &unit, "main").expect(&rt, "a program");
+    assert!(rt; named.entry == 0 && named.globals.len() == 0 && named.funcs.len() == 1);
 }
 
 #[test]
