@@ -2,7 +2,7 @@
 use Rattle.std.proofs.Common.{◌≡◌, ℕ, List, [], ◌++◌, Option, Some, None, sym, ap, ◌∙◌}
 use Rattle.std.specs.List.{flat_map}
 use Rattle.c_tree.specs.declared.program.Func.{Func}
-use Rattle.c_tree.specs.declared.program.Program.{Program}
+use Rattle.c_tree.specs.Programs.{Program}
 use Rattle.c_tree.specs.declared.unit.Unit.{Unit as Tree}
 use Rattle.c_tree.specs.Naming.{program_of}
 use Rattle.c_tree.specs.Uses.{uses}

@@ -5,3 +5,4 @@ pub mod Walks
 pub mod Entered
 pub mod Files
 pub mod Capped
+pub mod Parts

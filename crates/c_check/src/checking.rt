@@ -1,56 +1,85 @@
 //! Checking a unit.
 
 ghost use Rattle.std.specs.Prelude.{◌≡◌, IfOk, IfErr, IfSome, None, unwrap_or};
+ghost use Rattle.c_tree.specs.Checked.{IsSpelled};
 ghost use Rattle.c_tree.specs.Naming.{program_of, entry_number};
 ghost use Rattle.c_tree.specs.Uses.{uses};
 ghost use Rattle.c_tree.specs.Refusals.{Typed, IsRefused, faults, wide, no_entries, too_many_inputs};
 ghost use Rattle.c_check.specs.Verdicts.{first_of, after_all, after_uses};
 ghost use Rattle.c_check.specs.Answers.{told};
+ghost use Rattle.c_check.specs.Parts.{with_parts};
 
 use crate::checker::Checker;
 use crate::fault::{CheckFault, Fault};
 use crate::unit::UnitChecker;
 use crate::verdict::Verdict;
 use crate::{entry, spans};
-use c_tree::{Func, NoMemory, Program, RawTop, Unit};
+use c_tree::{Func, Global as Outside, NoMemory, Program, RawTop, Unit};
+use sqlite_items::Items;
 use std::alloc::Global;
 
 /// The greatest span of a function.
 const MAX_SPAN: u128 = 18_446_744_073_709_551_616;
 
+/// A unit with its names replaced by numbers. Faults may stand in it, so it is no program yet.
+#[derive(Drop)]
+pub(crate) struct Named {
+    pub(crate) globals: Items<Outside>,
+    pub(crate) funcs: Items<Func>,
+    pub(crate) entry: u32,
+}
+
 /// The program of a unit whose runs begin with the function `entry`: the unit with its names replaced by numbers, where no
 /// fault stands. A name is in scope from the end of its declarator, its own initialiser included, to the end of the list or
 /// the `for` that declares it (C11 6.2.1); functions are known in the whole unit. Bytes of names are compared.
 ///
-/// Any unit is taken, whatever its height, and consumed. Of the faults that stand the first of `CheckFault` is told, and of
-/// that one the smallest place. Want of memory may be told in place of either answer.
+/// The unit is one that the tokens of some text spell, whatever its height, and is consumed. Of the faults that stand the
+/// first of `CheckFault` is told, and of that one the smallest place. Want of memory may be told in place of either answer.
 pub fn check(alloc: Global, unit: Unit, entry: &str) -> Result<Program, CheckFault>
+    requires spelled { IsSpelled unit }
     ensures program { IfOk result (Typed unit entry.now) }
     ensures refused { IfErr result (λ e. IfSome (told e) (IsRefused unit entry.now)) }
 {
-    let (program, verdict) = judged(alloc, &unit, entry.as_bytes())?;
+    let Named {
+        globals,
+        funcs,
+        entry,
+    } = faultless(alloc, &unit, entry)?;
+    Ok(Program {
+        globals,
+        funcs,
+        entry,
+    })
+}
+
+/// The parts of the program of any unit, where no fault stands; else the first fault.
+pub(crate) fn faultless(alloc: Global, unit: &Unit, entry: &str) -> Result<Named, CheckFault>
+    ensures named { IfOk result (λ n. Typed unit.now entry.now (with_parts n)) }
+    ensures refused { IfErr result (λ e. IfSome (told e) (IsRefused unit.now entry.now)) }
+{
+    let (named, verdict) = judged(alloc, unit, entry.as_bytes())?;
     match verdict.first {
-        None => Ok(program),
+        None => Ok(named),
         Some(refusal) => Err(refusal.into()),
     }
 }
 
-// The program of a unit, and the first of its faults.
-fn judged(alloc: Global, unit: &Unit, entry: &[u8]) -> Result<(Program, Verdict), NoMemory>
-    ensures program { IfOk result (λ r. r.0 ≡ program_of unit.now entry.now) }
+// A unit with its names replaced by numbers, and the first of its faults.
+fn judged(alloc: Global, unit: &Unit, entry: &[u8]) -> Result<(Named, Verdict), NoMemory>
+    ensures named { IfOk result (λ r. with_parts r.0 ≡ program_of unit.now entry.now) }
     ensures first { IfOk result (λ r. first_of r.1 ≡ after_all None (faults unit.now entry.now)) }
 {
-    let (program, mut verdict) = named(alloc, unit, entry)?;
+    let (named, mut verdict) = walked(alloc, unit, entry)?;
     ask_of_entry(unit, entry, &mut verdict);
     ask_of_inputs(unit, entry, &mut verdict);
-    let spans = spans::spans(alloc, program.funcs.as_slice())?;
+    let spans = spans::spans(alloc, named.funcs.as_slice())?;
     ask_of_spans(&spans, unit.tops.as_slice(), &mut verdict);
-    Ok((program, verdict))
+    Ok((named, verdict))
 }
 
-// The program of a unit, and the first fault of its single uses.
-fn named(alloc: Global, unit: &Unit, entry: &[u8]) -> Result<(Program, Verdict), NoMemory>
-    ensures program { IfOk result (λ r. r.0 ≡ program_of unit.now entry.now) }
+// A unit with its names replaced by numbers, and the first fault of its single uses.
+fn walked(alloc: Global, unit: &Unit, entry: &[u8]) -> Result<(Named, Verdict), NoMemory>
+    ensures named { IfOk result (λ r. with_parts r.0 ≡ program_of unit.now entry.now) }
     ensures first { IfOk result (λ r. first_of r.1 ≡ after_uses None (uses unit.now)) }
 {
     let tops = unit.tops.as_slice();
@@ -63,12 +92,12 @@ fn named(alloc: Global, unit: &Unit, entry: &[u8]) -> Result<(Program, Verdict),
     } = walk;
     let Checker { verdict, .. } = checker;
     let entry = first_entry(funcs.as_slice(), entry)?;
-    let program = Program {
+    let named = Named {
         globals,
         funcs,
         entry,
     };
-    Ok((program, verdict))
+    Ok((named, verdict))
 }
 
 // The number of the function of this name; 0 where there is none.

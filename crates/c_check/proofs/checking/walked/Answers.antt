@@ -1,14 +1,14 @@
 use Rattle.std.proofs.Common.{◌++◌, None, ap, ◌∙◌}
 use Rattle.std.specs.Prelude.{unwrap_or}
-use Rattle.c_tree.specs.declared.program.Program.{Program}
+use Rattle.c_tree.specs.Programs.{Program}
 use Rattle.c_tree.specs.Naming.{started, entry_number, funcs_of, globals_of, program_of}
 use Rattle.c_tree.specs.Uses.{uses, tops_uses}
 use Rattle.c_check.specs.Verdicts.{after_uses}
-use Rattle.c_check.proofs.checking.named.Goals as goal
+use Rattle.c_check.proofs.checking.walked.Goals as goal
 
-pub returns-clause-program : goal.returns-clause-program
+pub returns-clause-named : goal.returns-clause-named
 unfolding program_of
-returns-clause-program c =
+returns-clause-named c =
     let ts = c.as_slice-tops.result.now in
     let walk = c.in_ok-walk.ensures in
     let gs = c.in_ok-tops.ensures.globals ∙ ap (λ gs. gs ++ globals_of ts) walk.globals ∙ ap globals_of c.as_slice-tops.ensures in
