@@ -17,8 +17,6 @@ mod run_end;
 mod runs;
 mod simple;
 mod statements;
-#[cfg(test)]
-mod tests;
 mod values;
 mod writing;
 

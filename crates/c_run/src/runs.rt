@@ -15,6 +15,7 @@ use crate::memory::Memory;
 use crate::run_end::RunEnd;
 use c_tree::{Costs, Func, Input, NoMemory, Program, Slot, Value};
 use std::alloc::Global;
+use typed_laws::is_well_formed;
 
 /// Runs a program on an input, and answers how the run ends (C11 6.5, 6.8): with the sum of the costs of the blocks that
 /// it enters, or at a step that is undefined, or where a loop's bound would be passed, whichever comes first. It returns,
@@ -25,11 +26,11 @@ pub fn run(
     costs: &Costs,
     input: &Input,
 ) -> Result<RunEnd, NoMemory>
-    requires formed { WellFormed program.now }
     requires costs { AreCostsOf program.now costs.now }
     requires fits { IsTrue (spec.fits program.now input.now) }
     ensures end { IfOk result (λ e. e ≡ ended costs.now (spec.run program.now input.now)) }
 {
+    is_well_formed(program);
     costs_are_small(costs);
     match program.funcs.get(program.entry as usize) {
         None => Ok(RunEnd::Undefined),
@@ -52,15 +53,16 @@ fn start(given: Given, entry: &Func, values: &[i64]) -> Result<RunEnd, NoMemory>
     ensures { IfOk result (λ e. e ≡ begun given.entry entry.now values.now) }
 {
     let alloc = given.alloc;
+    let program = given.program;
     let types = entry_types(alloc, entry)?;
     let arguments = arguments(alloc, types.as_slice(), values)?;
     let (_, rest) = values.split_at(types.len());
-    let globals = global_slots(alloc, given.program.globals.as_slice(), rest)?;
+    let globals = global_slots(alloc, program.globals.as_slice(), rest)?;
     run_entry(given, entry, arguments.as_slice(), globals)
 }
 
 /// Runs the entry function on these arguments and globals.
-pub(crate) fn run_entry(
+fn run_entry(
     given: Given,
     entry: &Func,
     arguments: &[Value],
@@ -68,12 +70,9 @@ pub(crate) fn run_entry(
 ) -> Result<RunEnd, NoMemory>
     ensures { IfOk result (λ e. e ≡ entered given.entry entry.now arguments.now globals.items) }
 {
+    let program = given.program;
     let locals = entry_slots(given.alloc, entry.locals.as_slice(), arguments)?;
-    let mut machine = Machine::new(
-        given.alloc,
-        given.program.entry,
-        Memory::new(locals, globals),
-    );
+    let mut machine = Machine::new(given.alloc, program.entry, Memory::new(locals, globals));
     let first = Task::List {
         stmts: entry.body.as_slice(),
         at: 0,

@@ -1,13 +1,9 @@
--- Worked bounds, computed, and programs that are well-formed.
-use Rattle.std.proofs.Common.{◌≡◌, true, false, refl, rules}
+-- Worked bounds, computed, and programs with and without a loop.
+use Rattle.std.proofs.Common.{◌≡◌, true, false, refl}
 use Rattle.c_tree.specs.declared.tree.Expr.TheBlock as eb
 use Rattle.c_tree.specs.declared.tree.Stmt.TheBlock as sb
 use denote.Hole.Carrier as carrier
 use Rattle.c_tree.specs.Blocks as blocks
-use Rattle.c_tree.specs.Spans as spans
-use Rattle.c_tree.specs.WellFormed as formed
-use Rattle.c_tree.specs.WellFormed.{WellFormed}
-use Rattle.c_tree.specs.Claims.{AreCostsOf}
 use Rattle.c_tree.specs.Worked.{ones, two_thresholds, two_thresholds_costs, return_of_zero, counted_do}
 use Rattle.tree_bound.specs.Loops as loops
 use Rattle.tree_bound.specs.Loops.{has_loop}
@@ -46,15 +42,3 @@ worked-loop = refl
 pub worked-uncalled : has_loop uncalled_loop ≡ true
 unfolding two_thresholds return_of_zero counted_do called_twice void_callee nested_calls uncalled_loop eb.shape-the_row-Expr-0 eb.hidden-the_row-Expr-0 sb.shape-the_row-Stmt-0 sb.hidden-the_row-Stmt-0 sb.shape-the_row-Stmt-1 sb.hidden-the_row-Stmt-1 carrier.hidden blocks.blocks blocks.row_blocks blocks.held_blocks dear.dear dear.row_dear loops.stmt_loops loops.row_loops
 worked-uncalled = refl
-
-pub called_twice-formed : WellFormed called_twice
-unfolding called_twice eb.shape-the_row-Expr-0 eb.hidden-the_row-Expr-0 sb.shape-the_row-Stmt-0 sb.hidden-the_row-Stmt-0 carrier.hidden spans.span spans.row_span formed.WellFormedExpr formed.WellFormedPart formed.WellFormedStmt formed.WellFormedRow
-called_twice-formed = search rules
-
-pub called_twice-rows : AreCostsOf called_twice called_twice_costs
-unfolding two_thresholds return_of_zero counted_do called_twice void_callee nested_calls uncalled_loop eb.shape-the_row-Expr-0 eb.hidden-the_row-Expr-0 sb.shape-the_row-Stmt-0 sb.hidden-the_row-Stmt-0 sb.shape-the_row-Stmt-1 sb.hidden-the_row-Stmt-1 carrier.hidden blocks.blocks blocks.row_blocks blocks.held_blocks dear.dear dear.row_dear loops.stmt_loops loops.row_loops
-called_twice-rows = search rules
-
-pub called_twice-loops : has_loop called_twice ≡ false
-unfolding two_thresholds return_of_zero counted_do called_twice void_callee nested_calls uncalled_loop eb.shape-the_row-Expr-0 eb.hidden-the_row-Expr-0 sb.shape-the_row-Stmt-0 sb.hidden-the_row-Stmt-0 sb.shape-the_row-Stmt-1 sb.hidden-the_row-Stmt-1 carrier.hidden blocks.blocks blocks.row_blocks blocks.held_blocks dear.dear dear.row_dear loops.stmt_loops loops.row_loops
-called_twice-loops = refl

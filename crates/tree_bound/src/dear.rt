@@ -12,14 +12,15 @@ ghost use Rattle.tree_bound.specs.Room.{AreWithinSpans, HasRoom, goes_on_at};
 use c_tree::{Costs, Func, NoMemory, Program, Stmt};
 use sqlite_items::Items;
 use std::alloc::Global;
+use typed_laws::is_well_formed;
 
 /// The bound of a program without loops: no run costs more.
 pub fn bound_of(alloc: Global, program: &Program, costs: &Costs) -> Result<u128, NoMemory>
-    requires formed { WellFormed program.now }
     requires rows { AreCostsOf program.now costs.now }
     requires loops { has_loop program.now ≡ false }
     ensures { IfOk result (λ n. n ≡ bound_of program.now costs.now) }
 {
+    is_well_formed(program);
     let bounds = func_bounds(alloc, program, costs)?;
     Ok(bounds.as_slice()[program.entry as usize])
 }

@@ -5,8 +5,6 @@
 mod dear;
 mod law;
 mod loops;
-#[cfg(test)]
-mod tests;
 
 pub use dear::bound_of;
 pub use law::bound_is_above;

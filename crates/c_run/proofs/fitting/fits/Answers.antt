@@ -1,5 +1,6 @@
 use Rattle.std.proofs.Common.{◌++◌, ap, ◌∙◌}
 use Rattle.std.specs.Prelude.{slice_get, option_copied}
+use Rattle.c_tree.specs.Programs.{Program}
 use Rattle.c_tree.specs.Runs.{are_of, outer_types, entry_types}
 use Rattle.c_run.proofs.InputParts.{entry_some, entry_none}
 use Rattle.c_run.proofs.fitting.fits.Goals as goal
@@ -10,7 +11,8 @@ returns-in-None c =
     let us = outer_types p.globals in
     let o = option_copied c.get-entry.result in
     let zs = c.as_slice.result.now in
-    let whole = ap (λ o. are_of (entry_types o ++ us) zs) c.get-entry.ensures.value ∙ ap (λ zs. are_of (entry_types (slice_get p.funcs p.entry) ++ us) zs) c.as_slice.ensures in
+    let entry = c.get-entry.ensures.value ∙ ap (λ (p : Program). slice_get p.funcs p.entry) c.program.view_is in
+    let whole = ap (λ o. are_of (entry_types o ++ us) zs) entry ∙ ap (λ zs. are_of (entry_types (slice_get p.funcs p.entry) ++ us) zs) c.as_slice.ensures in
     record { fits = entry_none (entry_types o) us zs c.in-None.ensures ∙ whole }
 
 pub returns-in-Some : goal.returns-in-Some
@@ -19,5 +21,7 @@ returns-in-Some c =
     let us = outer_types p.globals in
     let o = option_copied c.get-entry.result in
     let zs = c.as_slice.result.now in
-    let whole = ap (λ o. are_of (entry_types o ++ us) zs) c.get-entry.ensures.value ∙ ap (λ zs. are_of (entry_types (slice_get p.funcs p.entry) ++ us) zs) c.as_slice.ensures in
-    record { fits = c.fit_globals.ensures ∙ ap (λ gs. are_of (outer_types gs) c.in-Some.rest.now) c.as_slice-in-Some.ensures ∙ entry_some (entry_types o) us zs c.in-Some.rest.now c.in-Some.ensures ∙ whole }
+    let entry = c.get-entry.ensures.value ∙ ap (λ (p : Program). slice_get p.funcs p.entry) c.program.view_is in
+    let whole = ap (λ o. are_of (entry_types o ++ us) zs) entry ∙ ap (λ zs. are_of (entry_types (slice_get p.funcs p.entry) ++ us) zs) c.as_slice.ensures in
+    let globals = c.as_slice-in-Some.ensures ∙ ap (λ (p : Program). p.globals) c.program.view_is in
+    record { fits = c.fit_globals.ensures ∙ ap (λ gs. are_of (outer_types gs) c.in-Some.rest.now) globals ∙ entry_some (entry_types o) us zs c.in-Some.rest.now c.in-Some.ensures ∙ whole }

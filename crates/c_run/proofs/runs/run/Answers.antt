@@ -1,5 +1,6 @@
 use Rattle.std.proofs.Common.{◌≡◌, Some, sym, ap, ◌∙◌, subst, IfOk}
 use Rattle.std.specs.Prelude.{IsTrue, slice_get}
+use Rattle.c_tree.specs.Programs.{Program}
 use Rattle.c_tree.specs.Runs.{are_of, input_types}
 use Rattle.c_run.specs.Ends.{ended}
 use Rattle.c_run.specs.Machine.{begun}
@@ -9,11 +10,13 @@ use Rattle.c_run.proofs.runs.run.Goals as goal
 
 pub returns-in-None : goal.returns-in-None
 returns-in-None c =
-    record { end = sym (ap (ended c.args.costs.now) (run_none c.args.program.now c.args.input.now (sym c.in-None.ensures.value))) }
+    let entry = c.in-None.ensures.value ∙ ap (λ (p : Program). slice_get p.funcs p.entry) c.program.view_is in
+    record { end = sym (ap (ended c.args.costs.now) (run_none c.args.program.now c.args.input.now (sym entry))) }
 
 pub start-requires : goal.start-requires
 start-requires c =
-    record { formed = c.requires.formed; entry = sym c.in-Some.ensures.value; fits = subst (λ zs. IsTrue (are_of (input_types c.args.program.now) zs)) (sym c.as_slice.ensures) c.requires.fits }
+    let entry = c.in-Some.ensures.value ∙ ap (λ (p : Program). slice_get p.funcs p.entry) c.program.view_is in
+    record { formed = c.is_well_formed.ensures; entry = sym entry; fits = subst (λ zs. IsTrue (are_of (input_types c.args.program.now) zs)) (sym c.as_slice.ensures) c.requires.fits }
 
 pub returns-in-Some : goal.returns-in-Some
 returns-in-Some c =
@@ -22,6 +25,7 @@ returns-in-Some c =
     let i = c.args.input.now in
     let h = c.in-Some.entry.now in
     let g : Given = record { alloc = c.args.alloc; program = c.args.program; costs = c.args.costs } in
-    let there : slice_get p.funcs p.entry ≡ Some h = sym c.in-Some.ensures.value in
+    let entry = c.in-Some.ensures.value ∙ ap (λ (p : Program). slice_get p.funcs p.entry) c.program.view_is in
+    let there : slice_get p.funcs p.entry ≡ Some h = sym entry in
     let is = run_some p i h there in
-    record { end = subst (λ x. IfOk c.start.result (λ e. e ≡ x)) (ap (begun g h) c.as_slice.ensures ∙ ended_is t h.result _ (λ u e. cost_fits p t c.requires.formed c.costs_are_small.ensures i u (is ∙ e)) ∙ ap (ended t) (sym is)) c.start.ensures }
+    record { end = subst (λ x. IfOk c.start.result (λ e. e ≡ x)) (ap (begun g h) c.as_slice.ensures ∙ ended_is t h.result _ (λ u e. cost_fits p t c.is_well_formed.ensures c.costs_are_small.ensures i u (is ∙ e)) ∙ ap (ended t) (sym is)) c.start.ensures }

@@ -1,4 +1,5 @@
 use Rattle.std.proofs.Common.{◌≡◌, ap, ◌∙◌, subst, IfOk}
+use Rattle.c_tree.specs.Programs.{Program}
 use Rattle.c_tree.specs.Runs.{entry_slots}
 use Rattle.c_run.specs.Machine.{doing}
 use Rattle.c_run.proofs.Exact.{begins}
@@ -15,4 +16,4 @@ returns c =
     let made = c.new-machine.ensures in
     let locals = c.in_ok-locals.ensures ∙ ap (λ ls. entry_slots ls vs) c.as_slice.ensures in
     let memory = made.memory ∙ c.new.ensures ∙ ap (λ ls. record { locals = ls; globals = gs }) locals in
-    subst (λ x. IfOk c.finish.result (λ e. e ≡ x)) (begins g m h vs gs c.as_slice-2.result.now made.func memory made.pending made.cost c.as_slice-2.ensures) c.finish.ensures
+    subst (λ x. IfOk c.finish.result (λ e. e ≡ x)) (begins g m h vs gs c.as_slice-2.result.now (made.func ∙ ap (λ (p : Program). p.entry) c.program.view_is) memory made.pending made.cost c.as_slice-2.ensures) c.finish.ensures
