@@ -1,11 +1,7 @@
--- Worked graphs and limits, computed, and a program that is well-formed.
-use Rattle.std.proofs.Common.{◌≡◌, length, Some, None, refl, rules}
+-- Worked graphs and limits, computed.
+use Rattle.std.proofs.Common.{◌≡◌, length, Some, None, refl}
 use Rattle.c_tree.specs.Statements.{block}
-use Rattle.c_tree.specs.Worked.{two_thresholds, two_thresholds_costs, clamp_filter}
-use Rattle.c_tree.specs.WellFormed as formed
-use Rattle.c_tree.specs.WellFormed.{WellFormed}
-use Rattle.c_tree.specs.Claims.{AreCostsOf}
-use Rattle.c_tree.specs.Spans as spans
+use Rattle.c_tree.specs.Worked.{two_thresholds, clamp_filter}
 use Rattle.c_tree.specs.Blocks as blocks
 use Rattle.c_tree.specs.declared.tree.Expr.TheBlock as eb
 use Rattle.c_tree.specs.declared.tree.Stmt.TheBlock as sb
@@ -41,11 +37,3 @@ worked-at_the_cap = refl
 pub worked-past_the_cap : refusal (graph (nested_counts 1048576)) ≡ Some (Cap (block 0 3))
 unfolding two_thresholds clamp_filter nested_counts limits.refusal graphs.graph graphs.edges sites.flow sites.row_flow sites.held_flow sites.size sites.row_size sites.held_size blocks.blocks blocks.row_blocks blocks.held_blocks eb.shape-the_row-Expr-0 eb.hidden-the_row-Expr-0 sb.shape-the_row-Stmt-0 sb.hidden-the_row-Stmt-0 sb.shape-the_row-Stmt-1 sb.hidden-the_row-Stmt-1 carrier.hidden
 worked-past_the_cap = refl
-
-pub two_thresholds-formed : WellFormed two_thresholds
-unfolding two_thresholds eb.shape-the_row-Expr-0 eb.hidden-the_row-Expr-0 sb.shape-the_row-Stmt-0 sb.hidden-the_row-Stmt-0 sb.shape-the_row-Stmt-1 sb.hidden-the_row-Stmt-1 carrier.hidden spans.span spans.row_span spans.held_span formed.WellFormedExpr formed.WellFormedPart formed.WellFormedStmt formed.WellFormedRow formed.WellFormedHeld formed.WellFormedSole
-two_thresholds-formed = search rules
-
-pub two_thresholds-costed : AreCostsOf two_thresholds two_thresholds_costs
-unfolding two_thresholds eb.shape-the_row-Expr-0 eb.hidden-the_row-Expr-0 sb.shape-the_row-Stmt-0 sb.hidden-the_row-Stmt-0 sb.shape-the_row-Stmt-1 sb.hidden-the_row-Stmt-1 carrier.hidden blocks.blocks blocks.row_blocks blocks.held_blocks
-two_thresholds-costed = search rules

@@ -17,6 +17,3 @@ pub use flow_laws::{Edge, Loop, Node, Way};
 pub use graph::Plan;
 pub use law::worked_limits;
 pub use planning::plan;
-
-#[cfg(test)]
-mod tests;

@@ -20,6 +20,7 @@ use crate::unfold::lay_out;
 use c_tree::{Costs, NoMemory, Program};
 use sqlite_items::Items;
 use std::alloc::Global;
+use typed_laws::is_well_formed;
 
 const COPIES: Weights = Weights {
     test: 1,
@@ -38,12 +39,12 @@ const EDGES: Weights = Weights {
 /// The first that holds, in the order of `PlanFault`; `NoMemory` may stand before any other. Sizes are measured before
 /// anything is built, in time linear in the program.
 pub fn plan(alloc: Global, program: Program, costs: Costs) -> Result<Plan, PlanFault>
-    requires formed { WellFormed program }
     requires costed { AreCostsOf program costs }
     ensures plan { IfOk result (λ p. p ≡ planned program costs) }
     ensures whole { OnOk result (refusal (graph program) ≡ None) }
     ensures refused { IfErr result (λ e. e ≢ PlanFault.NoMemory → refusal (graph program) ≡ Some e) }
 {
+    is_well_formed(&program);
     let copies = check_size(alloc, &program)?;
     let spots = spots_of(alloc, &program)?;
     check_caps(&program, spots.as_slice())?;

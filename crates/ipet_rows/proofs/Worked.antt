@@ -1,10 +1,6 @@
--- Worked rows and bounds, computed, and programs that are well-formed.
-use Rattle.std.proofs.Common.{◌≡◌, ◌∷◌, [], length, refl, rules}
+-- Worked rows and bounds, computed.
+use Rattle.std.proofs.Common.{◌≡◌, ◌∷◌, [], length, refl}
 use Rattle.c_tree.specs.Worked.{ones, two_thresholds, two_thresholds_costs, counted_while, counted_do, local, initialised_by_call}
-use Rattle.c_tree.specs.WellFormed as formed
-use Rattle.c_tree.specs.WellFormed.{WellFormed}
-use Rattle.c_tree.specs.Claims.{AreCostsOf}
-use Rattle.c_tree.specs.Spans as spans
 use Rattle.c_tree.specs.Blocks as blocks
 use Rattle.c_tree.specs.declared.tree.Expr.TheBlock as eb
 use Rattle.c_tree.specs.declared.tree.Stmt.TheBlock as sb
@@ -15,7 +11,7 @@ use Rattle.flow_laws.specs.Sites as sites
 use Rattle.flow_laws.specs.WorkedGraphs.{empty_do}
 use Rattle.ipet_rows.specs.FlowRows.{flow_rows}
 use Rattle.ipet_rows.specs.CapsBound.{caps_bound}
-use Rattle.ipet_rows.specs.Worked.{plus, minus, equal, at_most, once_do, four_ones}
+use Rattle.ipet_rows.specs.Worked.{plus, minus, equal, at_most, once_do}
 
 pub worked-two_choices : length (flow_rows (graph two_thresholds)) ≡ 7
 unfolding two_thresholds counted_while counted_do initialised_by_call empty_do once_do graphs.graph graphs.edges sites.flow sites.row_flow sites.held_flow sites.size sites.row_size sites.held_size blocks.blocks blocks.row_blocks blocks.held_blocks eb.shape-the_row-Expr-0 eb.hidden-the_row-Expr-0 sb.shape-the_row-Stmt-0 sb.hidden-the_row-Stmt-0 sb.shape-the_row-Stmt-1 sb.hidden-the_row-Stmt-1 carrier.hidden
@@ -48,11 +44,3 @@ worked-bound_of_while = refl
 pub worked-bound_of_choices : caps_bound two_thresholds_costs (graph two_thresholds) ≡ 96
 unfolding two_thresholds counted_while counted_do initialised_by_call empty_do once_do graphs.graph graphs.edges sites.flow sites.row_flow sites.held_flow sites.size sites.row_size sites.held_size blocks.blocks blocks.row_blocks blocks.held_blocks eb.shape-the_row-Expr-0 eb.hidden-the_row-Expr-0 sb.shape-the_row-Stmt-0 sb.hidden-the_row-Stmt-0 sb.shape-the_row-Stmt-1 sb.hidden-the_row-Stmt-1 carrier.hidden
 worked-bound_of_choices = refl
-
-pub counted_while-formed : WellFormed counted_while
-unfolding counted_while eb.shape-the_row-Expr-0 eb.hidden-the_row-Expr-0 sb.shape-the_row-Stmt-0 sb.hidden-the_row-Stmt-0 sb.shape-the_row-Stmt-1 sb.hidden-the_row-Stmt-1 carrier.hidden spans.span spans.row_span spans.held_span formed.WellFormedExpr formed.WellFormedPart formed.WellFormedStmt formed.WellFormedRow formed.WellFormedHeld formed.WellFormedSole
-counted_while-formed = search rules
-
-pub counted_while-costed : AreCostsOf counted_while four_ones
-unfolding counted_while eb.shape-the_row-Expr-0 eb.hidden-the_row-Expr-0 sb.shape-the_row-Stmt-0 sb.hidden-the_row-Stmt-0 sb.shape-the_row-Stmt-1 sb.hidden-the_row-Stmt-1 carrier.hidden blocks.blocks blocks.row_blocks blocks.held_blocks
-counted_while-costed = search rules

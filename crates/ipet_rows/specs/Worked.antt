@@ -1,6 +1,5 @@
 -- Worked rows: what they are written of. In the text beside a program its loops' bounds stand in brackets.
 use Rattle.std.specs.Prelude.{ℕ, ℤ, pos, neg_ℤ, List, [], ◌∷◌}
-use Rattle.c_tree.specs.declared.program.Costs.{Costs}
 use Rattle.c_tree.specs.declared.program.Program.{Program}
 use Rattle.c_tree.specs.declared.tree.Stmt.TheVariants.{Do}
 use Rattle.c_tree.specs.Worked.{num, returns, main_of}
@@ -23,7 +22,3 @@ at_most terms n = record { terms = terms; kind = AtMost; right = pos n }
 -- `int main(void) { do [1] {} while (0); return 0; }`
 unfoldable pub once_do : Program
 once_do = main_of 0 0 (Do 1 [] (num 0) ∷ returns (num 0) ∷ [])
-
--- 1 for each of four blocks
-abbrev pub four_ones : Costs
-four_ones = record { by_func = (1 ∷ 1 ∷ 1 ∷ 1 ∷ []) ∷ [] }

@@ -11,6 +11,3 @@ mod sound;
 pub use caps::{caps_bound, caps_box};
 pub use law::{bound_by_caps, bound_by_caps_is_dual, path_counts_meet_rows, worked_rows};
 pub use sound::{SoundRow, SoundRows, rows};
-
-#[cfg(test)]
-mod tests;
