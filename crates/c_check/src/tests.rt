@@ -1,6 +1,7 @@
 //! Small units and what is told of them; in each comment the unit's text, as far as it matters.
 
-use crate::{CheckFault, check};
+use crate::CheckFault;
+use crate::checking::faultless;
 use c_tree::{
     Name, NoMemory, Program, RawBound, RawExpr, RawFunc, RawParam, RawShape, RawStmt, RawTarget,
     RawTop, Spot, Ty, Unit,
@@ -85,7 +86,7 @@ fn main_of_two(alloc: Global, first: RawStmt, second: RawStmt) -> Result<Unit, N
 fn fault_of(alloc: Global, unit: Result<Unit, NoMemory>) -> Option<CheckFault> {
     match unit {
         Err(_) => Some(CheckFault::NoMemory),
-        Ok(unit) => check(alloc, unit, "main").err(),
+        Ok(unit) => faultless(alloc, &unit, "main").err(),
     }
 }
 
@@ -98,7 +99,7 @@ fn empty(alloc: Global) -> Unit {
 
 #[test]
 fn the_empty_text_has_no_entry(rt: HostRuntime) {
-    let fault = check(rt.alloc(), empty(rt.alloc()), "main").err();
+    let fault = faultless(rt.alloc(), &empty(rt.alloc()), "main").err();
     assert!(rt; fault == Some(CheckFault::NoEntry { at: 0 }));
 }
 
@@ -108,7 +109,7 @@ fn a_program_is_answered(rt: HostRuntime) {
     // int main(void) { int x; }
     let x = declared(alloc, b"x", 21).expect(&rt, "memory");
     let unit = main_of(alloc, x).expect(&rt, "memory");
-    let program = check(alloc, unit, "main").expect(&rt, "a program");
+    let program = faultless(alloc, &unit, "main").expect(&rt, "a program");
     assert!(rt; program.entry == 0 && program.globals.len() == 0 && program.funcs.len() == 1);
 }
 
@@ -118,7 +119,7 @@ fn an_entry_has_any_name(rt: HostRuntime) {
     // int main(void) { ; }
     assert!(rt; fault_of(alloc, main_of(alloc, RawStmt::Empty)) == None);
     let unit = main_of(alloc, RawStmt::Empty).expect(&rt, "memory");
-    assert!(rt; check(alloc, unit, "f").err() == Some(CheckFault::NoEntry { at: 99 }));
+    assert!(rt; faultless(alloc, &unit, "f").err() == Some(CheckFault::NoEntry { at: 99 }));
 }
 
 #[test]
@@ -239,7 +240,7 @@ fn spans_are_at_most_two_to_the_64(rt: HostRuntime) {
         tops: one(alloc, main).expect(&rt, "memory"),
         end: 99,
     };
-    let fault = check(alloc, unit, "main").err();
+    let fault = faultless(alloc, &unit, "main").err();
     assert!(rt; fault == Some(CheckFault::Span { at: 4 }));
 }
 
@@ -255,6 +256,6 @@ fn inputs_are_counted(rt: HostRuntime) {
     let t = spot(alloc, b"t", 70).expect(&rt, "memory");
     tops.push(RawTop::Outer(false, Ty::Int, t, None))
         .expect(&rt, "memory");
-    let fault = check(alloc, Unit { tops, end: 99 }, "main").err();
+    let fault = faultless(alloc, &Unit { tops, end: 99 }, "main").err();
     assert!(rt; fault == Some(CheckFault::Inputs { at: 70 }));
 }
