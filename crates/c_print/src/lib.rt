@@ -7,7 +7,5 @@ mod parts;
 mod printing;
 mod simple;
 mod stmts;
-#[cfg(test)]
-mod tests;
 
 pub use printing::print;

@@ -42,7 +42,11 @@ pub fn plain_costs(alloc: Global, program: &Program) -> Result<Costs, NoMemory>
 }
 
 // The costs that a document gives.
-fn document_costs(alloc: Global, funcs: &[Func], document: &Table) -> Result<Costs, CostFault>
+pub(crate) fn document_costs(
+    alloc: Global,
+    funcs: &[Func],
+    document: &Table,
+) -> Result<Costs, CostFault>
     ensures table { IfOk result (λ t. judged (fault_of funcs.now (table_view document.now)) (costs_of funcs.now (table_view document.now)) ≡ Ok t) }
     ensures fault { IfErr result (λ e. e ≢ CostFault.NoMemory → judged (fault_of funcs.now (table_view document.now)) (costs_of funcs.now (table_view document.now)) ≡ Err e) }
 {

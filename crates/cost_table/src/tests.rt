@@ -1,7 +1,10 @@
 //! Tables and what they give, by the rules of a cost table and of TOML.
 
-use super::*;
-use c_tree::{BinOp, Costs, Expr, Func, Name, Place, Program, Stmt, Ty, Var};
+use crate::CostFault;
+use crate::document::read;
+use crate::rows::plain_rows;
+use crate::table::document_costs;
+use c_tree::{BinOp, Costs, Expr, Func, Name, Place, Stmt, Ty, Var};
 use sqlite_items::{Boxed, Items};
 use std::alloc::Global;
 use std::process::Abort;
@@ -294,11 +297,11 @@ fn returns(alloc: Global, count: u32) -> Result<Items<Stmt>, Fail> {
 
 fn push_func(
     alloc: Global,
-    program: &mut Program,
+    funcs: &mut Items<Func>,
     name: &[u8],
     body: Items<Stmt>,
 ) -> Result<(), Fail> {
-    program.funcs.push(Func {
+    funcs.push(Func {
         name: Name::from_slice(alloc, name)?,
         result: None,
         params: 0,
@@ -308,23 +311,20 @@ fn push_func(
     Ok(())
 }
 
-fn empty_program(alloc: Global) -> Program {
-    Program {
-        globals: Items::new(alloc),
-        funcs: Items::new(alloc),
-        entry: 0,
-    }
+fn six_blocks(alloc: Global) -> Result<Items<Func>, Fail> {
+    let mut funcs = Items::new(alloc);
+    push_func(alloc, &mut funcs, b"main", thresholds(alloc)?)?;
+    Ok(funcs)
 }
 
-fn six_blocks(alloc: Global) -> Result<Program, Fail> {
-    let mut program = empty_program(alloc);
-    push_func(alloc, &mut program, b"main", thresholds(alloc)?)?;
-    Ok(program)
+fn costs(alloc: Global, funcs: &[Func], text: &[u8]) -> Result<Costs, CostFault> {
+    let document = read(alloc, text)?;
+    document_costs(alloc, funcs, &document)
 }
 
-fn show_costs(alloc: Global, costs: &Costs) -> Result<String, Fail> {
+fn show_rows(alloc: Global, rows: &[Items<u32>]) -> Result<String, Fail> {
     let mut shown = String::new(alloc);
-    for row in costs.by_func.as_slice() {
+    for row in rows {
         if !shown.is_empty() {
             shown.push_str(" /")?;
         }
@@ -343,9 +343,9 @@ fn show_fault(alloc: Global, fault: &str, name: &Name) -> Result<String, Fail> {
     Ok(format!(in alloc; "{fault} {name}")?)
 }
 
-fn show(alloc: Global, program: &Program, text: &[u8]) -> Result<String, Fail> {
-    match costs(alloc, program, text) {
-        Ok(costs) => show_costs(alloc, &costs),
+fn show(alloc: Global, funcs: &[Func], text: &[u8]) -> Result<String, Fail> {
+    match costs(alloc, funcs, text) {
+        Ok(costs) => show_rows(alloc, costs.by_func.as_slice()),
         Err(CostFault::NotToml) => Ok(String::from_str(alloc, "NotToml")?),
         Err(CostFault::Version) => Ok(String::from_str(alloc, "Version")?),
         Err(CostFault::Key { name }) => show_fault(alloc, "Key", &name),
@@ -356,94 +356,100 @@ fn show(alloc: Global, program: &Program, text: &[u8]) -> Result<String, Fail> {
     }
 }
 
-fn agree(rt: &impl Abort, alloc: Global, program: &Program, cases: &[Case]) -> Result<(), Fail> {
+fn agree(rt: &impl Abort, alloc: Global, funcs: &[Func], cases: &[Case]) -> Result<(), Fail> {
     for (text, expected) in cases {
-        let shown = show(alloc, program, text)?;
+        let shown = show(alloc, funcs, text)?;
         assert_eq!(rt; shown.as_str(), *expected);
     }
     Ok(())
 }
 
+/// The tables for the six blocks of `main`.
+fn six_agree(rt: &impl Abort, alloc: Global, cases: &[Case]) -> Result<(), Fail> {
+    agree(rt, alloc, six_blocks(alloc)?.as_slice(), cases)
+}
+
 #[test]
 fn versions(rt: HostRuntime) -> Result<(), Fail> {
-    agree(&rt, rt.alloc(), &six_blocks(rt.alloc())?, &VERSIONS)
+    six_agree(&rt, rt.alloc(), &VERSIONS)
 }
 
 #[test]
 fn keys(rt: HostRuntime) -> Result<(), Fail> {
-    agree(&rt, rt.alloc(), &six_blocks(rt.alloc())?, &KEYS)
+    six_agree(&rt, rt.alloc(), &KEYS)
 }
 
 #[test]
 fn blocks(rt: HostRuntime) -> Result<(), Fail> {
-    agree(&rt, rt.alloc(), &six_blocks(rt.alloc())?, &BLOCKS)
+    six_agree(&rt, rt.alloc(), &BLOCKS)
 }
 
 #[test]
 fn numbers(rt: HostRuntime) -> Result<(), Fail> {
-    agree(&rt, rt.alloc(), &six_blocks(rt.alloc())?, &NUMBERS)
+    six_agree(&rt, rt.alloc(), &NUMBERS)
 }
 
 #[test]
 fn whole_tables(rt: HostRuntime) -> Result<(), Fail> {
-    agree(&rt, rt.alloc(), &six_blocks(rt.alloc())?, &WHOLE)
+    six_agree(&rt, rt.alloc(), &WHOLE)
 }
 
 #[test]
 fn no_toml(rt: HostRuntime) -> Result<(), Fail> {
-    agree(&rt, rt.alloc(), &six_blocks(rt.alloc())?, &NOT_TOML)
+    six_agree(&rt, rt.alloc(), &NOT_TOML)
 }
 
 #[test]
 fn the_first_fault_comes(rt: HostRuntime) -> Result<(), Fail> {
-    agree(&rt, rt.alloc(), &six_blocks(rt.alloc())?, &FIRSTS)
+    six_agree(&rt, rt.alloc(), &FIRSTS)
 }
 
 #[test]
 fn blocks_go_by_function_and_number(rt: HostRuntime) -> Result<(), Fail> {
     let alloc = rt.alloc();
-    let mut program = empty_program(alloc);
-    push_func(alloc, &mut program, b"z", returns(alloc, 2)?)?;
-    push_func(alloc, &mut program, b"a", returns(alloc, 11)?)?;
-    agree(&rt, alloc, &program, &FUNCTIONS)
+    let mut funcs = Items::new(alloc);
+    push_func(alloc, &mut funcs, b"z", returns(alloc, 2)?)?;
+    push_func(alloc, &mut funcs, b"a", returns(alloc, 11)?)?;
+    agree(&rt, alloc, funcs.as_slice(), &FUNCTIONS)
 }
 
-/// A program that no text spells: an entry of a name counts for each block of that name.
+/// Functions of no program: an entry of a name counts for each block of that name.
 #[test]
 fn functions_of_one_name(rt: HostRuntime) -> Result<(), Fail> {
     let alloc = rt.alloc();
-    let mut program = empty_program(alloc);
-    push_func(alloc, &mut program, b"f", returns(alloc, 1)?)?;
-    push_func(alloc, &mut program, b"f", returns(alloc, 3)?)?;
-    push_func(alloc, &mut program, b"\xff", returns(alloc, 1)?)?;
+    let mut funcs = Items::new(alloc);
+    push_func(alloc, &mut funcs, b"f", returns(alloc, 1)?)?;
+    push_func(alloc, &mut funcs, b"f", returns(alloc, 3)?)?;
+    push_func(alloc, &mut funcs, b"\xff", returns(alloc, 1)?)?;
     let text = b"version = 1\ndefault = 1\n[cost]\n\"f:0\" = 4\n\"f:2\" = 5";
-    assert_eq!(rt; show(alloc, &program, text)?.as_str(), "4 / 4 1 5 / 1");
+    assert_eq!(rt;
+        show(alloc, funcs.as_slice(), text)?.as_str(),
+        "4 / 4 1 5 / 1"
+    );
     Ok(())
 }
 
 #[test]
 fn plain_costs_are_1(rt: HostRuntime) -> Result<(), Fail> {
     let alloc = rt.alloc();
-    let Ok(costs) = plain_costs(alloc, &six_blocks(alloc)?) else {
-        panic!(rt; "there is memory");
-    };
-    assert_eq!(rt; show_costs(alloc, &costs)?.as_str(), "1 1 1 1 1 1");
+    let rows = plain_rows(alloc, six_blocks(alloc)?.as_slice())?;
+    assert_eq!(rt; show_rows(alloc, rows.as_slice())?.as_str(), "1 1 1 1 1 1");
     Ok(())
 }
 
-/// The time of a large table over a large program stays near linear.
+/// The time of a large table over a large function stays near linear.
 #[test]
 fn a_large_table(rt: HostRuntime) -> Result<(), Fail> {
     let alloc = rt.alloc();
-    let mut program = empty_program(alloc);
-    push_func(alloc, &mut program, b"main", returns(alloc, 40_000)?)?;
+    let mut funcs = Items::new(alloc);
+    push_func(alloc, &mut funcs, b"main", returns(alloc, 40_000)?)?;
     let mut text = String::from_str(alloc, "version = 1\n[cost]\n")?;
     for number in 0..40_000_u32 {
         text.push_str(format!(in alloc; "\"main:{number}\" = {number}\n")?.as_str())?;
     }
     assert!(rt; text.len() < 1_048_576);
-    let Ok(costs) = costs(alloc, &program, text.as_bytes()) else {
-        panic!(rt; "this is a table of the program");
+    let Ok(costs) = costs(alloc, funcs.as_slice(), text.as_bytes()) else {
+        panic!(rt; "this is a table of the function");
     };
     let [row] = costs.by_func.as_slice() else {
         panic!(rt; "there is one function");
