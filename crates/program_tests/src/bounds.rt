@@ -7,7 +7,6 @@ use cost_table::costs;
 use std::alloc::Global;
 use std::test::Fail;
 use tree_bound::{bound_of, has_loop};
-use typed_laws::is_well_formed;
 
 // The bound of a text of a program without loops, with a table of costs.
 fn bound(alloc: Global, text: &str, table: &str) -> Result<u128, Fail> {
@@ -17,7 +16,6 @@ fn bound(alloc: Global, text: &str, table: &str) -> Result<u128, Fail> {
     if has_loop(&program) {
         return Err(Fail::new("the program has a loop"));
     }
-    is_well_formed(&program);
     Ok(bound_of(alloc, &program, &costs)?)
 }
 
@@ -73,7 +71,10 @@ fn a_loop_is_found(rt: HostRuntime) -> Result<(), Fail> {
             "int main(int x) { if (x) { {@#pragma loopbound 1@while (x) ; } } return 0; }",
             true,
         ),
-        ("int main(void) {@#pragma loopbound 2@for (;;) break; }", true),
+        (
+            "int main(void) {@#pragma loopbound 2@for (;;) break; }",
+            true,
+        ),
     ] {
         assert_eq!(rt; has_loop(&main_of(rt.alloc(), text)?), wanted, "{text}");
     }

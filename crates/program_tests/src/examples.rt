@@ -12,7 +12,8 @@ pub(crate) const TWO_CHOICES_TABLE: &str =
     "version = 1@default = 1@[cost]@\"main:2\" = 50@\"main:4\" = 40@";
 
 /// A loop that counts to at most 10.
-pub(crate) const COUNTED: &str = "int main(int n) { int i = 0;@#pragma loopbound 10@while (i < n) i++; return i; }";
+pub(crate) const COUNTED: &str =
+    "int main(int n) { int i = 0;@#pragma loopbound 10@while (i < n) i++; return i; }";
 
 /// A function that is called twice.
 pub(crate) const CALLED_TWICE: &str =
@@ -61,7 +62,8 @@ default = 2
 ";
 
 /// Every construct that a text may have.
-pub(crate) const EACH_CONSTRUCT: &str = "extern unsigned mode;extern int sample[4];static int low=-5;const unsigned mask=-1;
+pub(crate) const EACH_CONSTRUCT: &str =
+    "extern unsigned mode;extern int sample[4];static int low=-5;const unsigned mask=-1;
 int least = -2147483647 - 1; int table[3]={1,-2,};
 static void note(int x){table[0]=x;return;}int last;
 unsigned int pick(int a,unsigned b){return(b);}

@@ -9,14 +9,12 @@ use flow_graph::{Edge, Loop, Node, Plan, PlanFault, Way, plan};
 use std::alloc::{AllocError, Global};
 use std::process::Abort;
 use std::test::Fail;
-use typed_laws::is_well_formed;
 
 /// The plan of a text with a table of costs.
 pub(crate) fn plan_of(alloc: Global, text: &str, table: &str) -> Result<Plan, Fail> {
     let program = main_of(alloc, text)?;
     let table = with_lines(alloc, table)?;
     let costs = costs(alloc, &program, table.as_bytes())?;
-    is_well_formed(&program);
     Ok(plan(alloc, program, costs)?)
 }
 
@@ -283,7 +281,8 @@ fn the_filter_is_planned(rt: HostRuntime) -> Result<(), Fail> {
     Ok(())
 }
 
-const CAPPED: &str = "int main(int n) { int a = 0; int b = 0;@#pragma loopbound 1048576@while (a < n) { b = 0;@#pragma loopbound BOUND@while (b < n) b++; a++; } return a; }";
+const CAPPED: &str =
+    "int main(int n) { int a = 0; int b = 0;@#pragma loopbound 1048576@while (a < n) { b = 0;@#pragma loopbound BOUND@while (b < n) b++; a++; } return a; }";
 
 // The fault of two loops, the inner one with this bound.
 fn cap_fault(alloc: Global, bound: &str) -> Result<Option<PlanFault>, Fail> {
@@ -293,7 +292,6 @@ fn cap_fault(alloc: Global, bound: &str) -> Result<Option<PlanFault>, Fail> {
     text.push_str(tail)?;
     let program = main_of(alloc, text.as_str())?;
     let costs = plain_costs(alloc, &program)?;
-    is_well_formed(&program);
     Ok(plan(alloc, program, costs).err())
 }
 
@@ -302,6 +300,9 @@ fn cap_fault(alloc: Global, bound: &str) -> Result<Option<PlanFault>, Fail> {
 fn caps_have_a_limit(rt: HostRuntime) -> Result<(), Fail> {
     let block = BlockName { func: 0, number: 3 };
     assert_eq!(rt; cap_fault(rt.alloc(), "1048575")?, None);
-    assert_eq!(rt; cap_fault(rt.alloc(), "1048576")?, Some(PlanFault::Cap { block }));
+    assert_eq!(rt;
+        cap_fault(rt.alloc(), "1048576")?,
+        Some(PlanFault::Cap { block })
+    );
     Ok(())
 }

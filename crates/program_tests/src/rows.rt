@@ -133,7 +133,8 @@ fn a_loop_is_bounded_by_its_caps(rt: HostRuntime) -> Result<(), Fail> {
     Ok(())
 }
 
-const EACH_LOOP: &str = "int f(int n) { return n; } int main(int n) {@#pragma loopbound 3@while (n > 9) n--;@#pragma loopbound 4@do n++; while (n < 5);@#pragma loopbound 5@for (int i = 0; i < n; i++) n = f(n); return n; }";
+const EACH_LOOP: &str =
+    "int f(int n) { return n; } int main(int n) {@#pragma loopbound 3@while (n > 9) n--;@#pragma loopbound 4@do n++; while (n < 5);@#pragma loopbound 5@for (int i = 0; i < n; i++) n = f(n); return n; }";
 
 // 13 nodes: Entry and Exit; 2 of the `while`, 2 of the `do`, 4 of the `for`; the callee's, the landing and the `return`. So 1 row
 // of Entry's edge, 11 of nodes, 3 of loops. The caps of the edges of block copies: 4 + 4 + 3; 4 + 4 + 4; 1 + 6 + 6 + 5 + 5; 5; 1.

@@ -11,7 +11,6 @@ use sqlite_items::Items;
 use std::alloc::{AllocError, Global};
 use std::process::Abort;
 use std::test::Fail;
-use typed_laws::is_well_formed;
 
 // Texts, inputs of `main`, and how the runs end.
 const RUNS: &str = "\
@@ -47,7 +46,6 @@ fn ended(alloc: Global, end: RunEnd) -> Result<String, AllocError> {
 fn end_of(alloc: Global, program: &Program, input: &str) -> Result<RunEnd, Fail> {
     let costs = plain_costs(alloc, program)?;
     let input = read_input(alloc, program, input)?.ok_or("the input is not read")?;
-    is_well_formed(program);
     Ok(run(alloc, program, &costs, &input)?)
 }
 
@@ -77,7 +75,6 @@ fn a_run_costs_what_its_table_says(rt: HostRuntime) -> Result<(), Fail> {
     let costs = costs(alloc, &program, FILTER_TABLE.as_bytes())?;
     let text = "sample=-101,-102,-2147483648,-101 mode=2";
     let input = read_input(alloc, &program, text)?.ok_or("the input is not read")?;
-    is_well_formed(&program);
     let end = run(alloc, &program, &costs, &input)?;
     assert_eq!(rt; end, RunEnd::Ends { cost: 164 });
     Ok(())

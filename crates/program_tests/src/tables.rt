@@ -114,7 +114,8 @@ fn other_bytes_are_no_toml(rt: HostRuntime) -> Result<(), Fail> {
     Ok(())
 }
 
-const TWO_FUNCTIONS: &[u8] = b"void z(void) { return; return; } void a(void) { return; return; return; return; return; return; return; return; return; return; return; }";
+const TWO_FUNCTIONS: &[u8] =
+    b"void z(void) { return; return; } void a(void) { return; return; return; return; return; return; return; return; return; return; return; }";
 
 #[test]
 fn blocks_go_by_function_and_number(rt: HostRuntime) -> Result<(), Fail> {
@@ -128,7 +129,10 @@ fn plain_costs_are_1(rt: HostRuntime) -> Result<(), Fail> {
     for (text, wanted) in [
         (TWO_CHOICES, "1 1 1 1 1 1"),
         (COUNTED, "1 1 1 1"),
-        ("int f(void) { return 1; } int main(void) { f(); return 2; }", "1 / 1 1"),
+        (
+            "int f(void) { return 1; } int main(void) { f(); return 2; }",
+            "1 / 1 1",
+        ),
     ] {
         let costs = plain_costs(alloc, &main_of(alloc, text)?)?;
         assert_eq!(rt; show_costs(alloc, &costs)?.as_str(), wanted, "{text}");
