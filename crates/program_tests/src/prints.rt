@@ -203,9 +203,12 @@ fn parentheses_stand_where_the_tree_needs_them(rt: HostRuntime) -> Result<(), Fa
     Ok(())
 }
 
-// Texts whose printed texts are read again.
+// Texts whose printed texts are read again, those of the examples among them.
 const AGAIN: &str = "\
 int main(void) { }
+int main(void) { return 0; }
+int main(int x) { if (x == 0) return 1; else { x = x + 1; x = x - 2; } return x; }
+int main(int x) { int r = 0; if (10 < x) r = 1; if (x < 5) r = 2; return r; }
 void g(unsigned u) { u >>= 1; } int main(int n) { g(-n); g((unsigned)n); return n; }
 int x = 5; int main(void) { int y = x; { int x = 1; y += x; } return y; }
 int main(int n) { int i = 0;@#pragma loopbound 10@while (i < n) i++; return i; }
