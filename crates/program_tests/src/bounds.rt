@@ -1,6 +1,6 @@
 //! The bound of programs without loops, and whether a program has a loop.
 
-use crate::examples::{CALLED_TWICE, TWO_CHOICES, TWO_CHOICES_TABLE};
+use crate::examples::{CALLED_TWICE, TWO_THRESHOLDS, TWO_THRESHOLDS_TABLE};
 use crate::reading::main_of;
 use crate::texts::{two, with_lines};
 use cost_table::costs;
@@ -30,7 +30,10 @@ fn calls_cost_their_callees(rt: HostRuntime) -> Result<(), Fail> {
 // 1 + 1 + 50 + 1 + 40 + 1
 #[test]
 fn both_choices_are_counted(rt: HostRuntime) -> Result<(), Fail> {
-    assert_eq!(rt; bound(rt.alloc(), TWO_CHOICES, TWO_CHOICES_TABLE)?, 94);
+    assert_eq!(rt;
+        bound(rt.alloc(), TWO_THRESHOLDS, TWO_THRESHOLDS_TABLE)?,
+        94
+    );
     Ok(())
 }
 

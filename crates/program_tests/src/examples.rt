@@ -4,15 +4,15 @@
 pub(crate) const SMALL: &str = "unsigned seen[2] = {7, 8}; int main(int n) { { return -n; } }";
 
 /// Two choices, one after the other.
-pub(crate) const TWO_CHOICES: &str =
+pub(crate) const TWO_THRESHOLDS: &str =
     "int main(int x) { int r = 0; if (x > 10) r = 1; if (x < 5) r = 2; return r; }";
 
 /// A table that makes what they choose dear.
-pub(crate) const TWO_CHOICES_TABLE: &str =
+pub(crate) const TWO_THRESHOLDS_TABLE: &str =
     "version = 1@default = 1@[cost]@\"main:2\" = 50@\"main:4\" = 40@";
 
 /// A loop that counts to at most 10.
-pub(crate) const COUNTED: &str =
+pub(crate) const COUNTED_WHILE: &str =
     "int main(int n) { int i = 0;@#pragma loopbound 10@while (i < n) i++; return i; }";
 
 /// A function that is called twice.
@@ -20,7 +20,7 @@ pub(crate) const CALLED_TWICE: &str =
     "int one(void) { return 1; } int main(void) { one(); one(); return 2; }";
 
 /// A filter that clamps four samples and sums them.
-pub(crate) const FILTER: &str = "# 1 \"filter.c\"
+pub(crate) const CLAMP_FILTER: &str = "# 1 \"filter.c\"
 # 1 \"<built-in>\"
 extern int sample[4];
 extern int mode;
@@ -50,7 +50,7 @@ int main(void)
 ";
 
 /// A table of costs for the filter.
-pub(crate) const FILTER_TABLE: &str = "version = 1
+pub(crate) const CLAMP_FILTER_TABLE: &str = "version = 1
 default = 2
 [cost]
 \"main:4\" = 6

@@ -1,6 +1,6 @@
 //! Plans of programs: nodes, edges, loop copies and caps, worked out from the rules of the flat graph.
 
-use crate::examples::{COUNTED, FILTER, TWO_CHOICES, TWO_CHOICES_TABLE};
+use crate::examples::{CLAMP_FILTER, COUNTED_WHILE, TWO_THRESHOLDS, TWO_THRESHOLDS_TABLE};
 use crate::reading::main_of;
 use crate::texts::{four, three, with_lines};
 use c_tree::BlockName;
@@ -219,7 +219,7 @@ fn nodes_stand_in_calls(rt: HostRuntime) -> Result<(), Fail> {
 
 #[test]
 fn two_choices_are_planned(rt: HostRuntime) -> Result<(), Fail> {
-    let plan = plan_of(rt.alloc(), TWO_CHOICES, TWO_CHOICES_TABLE)?;
+    let plan = plan_of(rt.alloc(), TWO_THRESHOLDS, TWO_THRESHOLDS_TABLE)?;
     assert_eq!(rt; plan.nodes(), 8);
     assert_eq!(rt; plan.edges(), 9);
     assert_eq!(rt; plan.copies(), 6);
@@ -231,7 +231,7 @@ fn two_choices_are_planned(rt: HostRuntime) -> Result<(), Fail> {
 
 #[test]
 fn lists_are_followed(rt: HostRuntime) -> Result<(), Fail> {
-    let plan = plan_of(rt.alloc(), TWO_CHOICES, TWO_CHOICES_TABLE)?;
+    let plan = plan_of(rt.alloc(), TWO_THRESHOLDS, TWO_THRESHOLDS_TABLE)?;
     assert!(rt; plan.follows(&[0, 1, 2, 4, 6, 8]));
     assert!(rt; !plan.follows(&[0, 1, 2, 5]));
     assert!(rt; !plan.follows(&[0, 9]));
@@ -242,7 +242,7 @@ fn lists_are_followed(rt: HostRuntime) -> Result<(), Fail> {
 
 #[test]
 fn parts_are_read(rt: HostRuntime) -> Result<(), Fail> {
-    let plan = plan_of(rt.alloc(), TWO_CHOICES, TWO_CHOICES_TABLE)?;
+    let plan = plan_of(rt.alloc(), TWO_THRESHOLDS, TWO_THRESHOLDS_TABLE)?;
     assert_eq!(rt; plan.edges(), 9);
     assert_eq!(rt; plan.edge(3).to, 5);
     assert_eq!(rt; plan.cost(4), 50);
@@ -263,7 +263,7 @@ fn turning(alloc: Global, turns: usize) -> Result<Vec<u16>, AllocError> {
 #[test]
 fn a_loop_keeps_its_bound(rt: HostRuntime) -> Result<(), Fail> {
     let alloc = rt.alloc();
-    let plan = plain_plan_of(alloc, COUNTED)?;
+    let plan = plain_plan_of(alloc, COUNTED_WHILE)?;
     for (turns, wanted) in [(0, true), (1, true), (10, true), (11, false)] {
         let list = turning(alloc, turns)?;
         assert!(rt; plan.follows(&list), "{turns}");
@@ -275,7 +275,7 @@ fn a_loop_keeps_its_bound(rt: HostRuntime) -> Result<(), Fail> {
 // Ten blocks of `main` and five of the clamping function, Entry, Exit and a landing.
 #[test]
 fn the_filter_is_planned(rt: HostRuntime) -> Result<(), Fail> {
-    let plan = plain_plan_of(rt.alloc(), FILTER)?;
+    let plan = plain_plan_of(rt.alloc(), CLAMP_FILTER)?;
     assert_eq!(rt; plan.copies(), 15);
     assert_eq!(rt; plan.nodes(), 18);
     Ok(())

@@ -2,7 +2,7 @@
 //! a bound at the beginning of the line before its loop, numbers in decimal, parentheses only where the tree needs them or
 //! where a unary operand is itself unary.
 
-use crate::examples::{EACH_CONSTRUCT, FILTER};
+use crate::examples::{CLAMP_FILTER, EACH_CONSTRUCT};
 use crate::reading::{main_of, program_of};
 use crate::texts::{two, with_lines};
 use c_print::print;
@@ -131,7 +131,7 @@ fn programs_are_laid_out(rt: HostRuntime) -> Result<(), Fail> {
 #[test]
 fn every_construct_is_printed(rt: HostRuntime) -> Result<(), Fail> {
     is_printed(&rt, rt.alloc(), EACH_CONSTRUCT, EACH_CONSTRUCT_PRINTED)?;
-    is_printed(&rt, rt.alloc(), FILTER, FILTER_PRINTED)
+    is_printed(&rt, rt.alloc(), CLAMP_FILTER, FILTER_PRINTED)
 }
 
 // Expressions over the `int` a and b, the `unsigned` c and an array s of four, and how they are printed.
@@ -203,7 +203,7 @@ fn parentheses_stand_where_the_tree_needs_them(rt: HostRuntime) -> Result<(), Fa
     Ok(())
 }
 
-// Texts whose printed texts are read again, those of the examples among them.
+// Texts whose printed texts are read again; those with the tokens of the examples are among them.
 const AGAIN: &str = "\
 int main(void) { }
 int main(void) { return 0; }
@@ -239,6 +239,6 @@ fn a_printed_text_is_printed_again(rt: HostRuntime) -> Result<(), Fail> {
             is_kept(&rt, rt.alloc(), text)?;
         }
     }
-    is_kept(&rt, rt.alloc(), FILTER)?;
+    is_kept(&rt, rt.alloc(), CLAMP_FILTER)?;
     is_kept(&rt, rt.alloc(), EACH_CONSTRUCT)
 }

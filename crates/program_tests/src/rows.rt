@@ -3,7 +3,7 @@
 ghost use Rattle.std.specs.Prelude.{◌≡◌, IfOk, [], ◌∷◌};
 ghost use Rattle.ipet_rows.specs.Worked.{plus, at_most};
 
-use crate::examples::{COUNTED, TWO_CHOICES, TWO_CHOICES_TABLE};
+use crate::examples::{COUNTED_WHILE, TWO_THRESHOLDS, TWO_THRESHOLDS_TABLE};
 use crate::plans::{plain_plan_of, plan_of};
 use crate::texts::two;
 use flow_graph::Plan;
@@ -100,7 +100,7 @@ fn rows_with<'p>(rows: SoundRows<'p>, row: SoundRow<'p>) -> usize
 #[test]
 fn a_row_is_added_to_those_of_two_choices(rt: HostRuntime) -> Result<(), Fail> {
     let alloc = rt.alloc();
-    let plan = plan_of(alloc, TWO_CHOICES, TWO_CHOICES_TABLE)?;
+    let plan = plan_of(alloc, TWO_THRESHOLDS, TWO_THRESHOLDS_TABLE)?;
     let row = sound_row(&plan, at_most_once(alloc)?);
     let seven = rows(alloc, &plan)?;
     assert_eq!(rt; seven.rows().rows().len(), 7);
@@ -112,7 +112,7 @@ fn a_row_is_added_to_those_of_two_choices(rt: HostRuntime) -> Result<(), Fail> {
 
 #[test]
 fn edges_cost_what_their_sources_do(rt: HostRuntime) -> Result<(), Fail> {
-    let plan = plan_of(rt.alloc(), TWO_CHOICES, TWO_CHOICES_TABLE)?;
+    let plan = plan_of(rt.alloc(), TWO_THRESHOLDS, TWO_THRESHOLDS_TABLE)?;
     let sound = rows(rt.alloc(), &plan)?;
     let costs = [0, 1, 1, 1, 50, 1, 1, 40, 1];
     assert_eq!(rt; sound.objective().costs(), costs.as_slice());
@@ -123,7 +123,7 @@ fn edges_cost_what_their_sources_do(rt: HostRuntime) -> Result<(), Fail> {
 // 0 + 1 + 11 + 11 + 10 + 1
 #[test]
 fn a_loop_is_bounded_by_its_caps(rt: HostRuntime) -> Result<(), Fail> {
-    let plan = plain_plan_of(rt.alloc(), COUNTED)?;
+    let plan = plain_plan_of(rt.alloc(), COUNTED_WHILE)?;
     assert_eq!(rt; caps_bound(&plan), 34);
     let within = caps_box(rt.alloc(), &plan)?;
     let limits = [(0, 1), (0, 1), (0, 11), (0, 11), (0, 10), (0, 1)];

@@ -1,7 +1,7 @@
 //! Runs of programs, with ends worked out from the rules of C and of blocks and bounds, and the texts of inputs. Each block costs 1
 //! where no table is named.
 
-use crate::examples::{FILTER, FILTER_TABLE};
+use crate::examples::{CLAMP_FILTER, CLAMP_FILTER_TABLE};
 use crate::reading::main_of;
 use crate::texts::{three, two};
 use c_run::{RunEnd, fits, input_text, read_input, run};
@@ -71,8 +71,8 @@ fn runs_end_as_c_says(rt: HostRuntime) -> Result<(), Fail> {
 #[test]
 fn a_run_costs_what_its_table_says(rt: HostRuntime) -> Result<(), Fail> {
     let alloc = rt.alloc();
-    let program = main_of(alloc, FILTER)?;
-    let costs = costs(alloc, &program, FILTER_TABLE.as_bytes())?;
+    let program = main_of(alloc, CLAMP_FILTER)?;
+    let costs = costs(alloc, &program, CLAMP_FILTER_TABLE.as_bytes())?;
     let text = "sample=-101,-102,-2147483648,-101 mode=2";
     let input = read_input(alloc, &program, text)?.ok_or("the input is not read")?;
     let end = run(alloc, &program, &costs, &input)?;
@@ -98,10 +98,10 @@ fn chain(alloc: Global, depth: u32) -> Result<String, AllocError> {
 #[test]
 fn calls_need_no_stack(rt: HostRuntime) -> Result<(), Fail> {
     let alloc = rt.alloc();
-    let text = chain(alloc, 10_000)?;
+    let text = chain(alloc, 20_000)?;
     let program = main_of(alloc, text.as_str())?;
     let end = end_of(alloc, &program, "")?;
-    assert_eq!(rt; end, RunEnd::Ends { cost: 20_003 });
+    assert_eq!(rt; end, RunEnd::Ends { cost: 40_003 });
     Ok(())
 }
 

@@ -1,7 +1,7 @@
 //! Tables of costs and what they give to the blocks of a program. Each row is a table, and what is shown of it: the costs of
 //! each function's blocks in order, or a fault with its name. The tests of `cost_table` have many more tables, over functions.
 
-use crate::examples::{COUNTED, TWO_CHOICES};
+use crate::examples::{COUNTED_WHILE, TWO_THRESHOLDS};
 use crate::reading::{main_of, program_of};
 use crate::texts::{two, with_lines};
 use c_tree::{Costs, Name, Program};
@@ -10,7 +10,7 @@ use std::alloc::Global;
 use std::process::Abort;
 use std::test::Fail;
 
-// For the six blocks of two choices: the costs, each fault, and the first of several faults.
+// For the six blocks of two thresholds: the costs, each fault, and the first of several faults.
 const SIX_BLOCKS: &str = "\
 version = 1@default = 1 ## 1 1 1 1 1 1
 version = 1@default = 1@[cost]@\"main:2\" = 50@\"main:4\" = 40 ## 1 1 50 1 40 1
@@ -97,14 +97,14 @@ fn agree(rt: &impl Abort, alloc: Global, program: &Program, rows: &str) -> Resul
 
 #[test]
 fn tables_give_costs_or_their_first_fault(rt: HostRuntime) -> Result<(), Fail> {
-    let program = main_of(rt.alloc(), TWO_CHOICES)?;
+    let program = main_of(rt.alloc(), TWO_THRESHOLDS)?;
     agree(&rt, rt.alloc(), &program, SIX_BLOCKS)
 }
 
 // Tables that are not UTF-8; the fault of the form comes before others.
 #[test]
 fn other_bytes_are_no_toml(rt: HostRuntime) -> Result<(), Fail> {
-    let program = main_of(rt.alloc(), TWO_CHOICES)?;
+    let program = main_of(rt.alloc(), TWO_THRESHOLDS)?;
     for table in [
         b"version = 1 # \xff\ndefault = 1".as_slice(),
         b"version = 2\nalpha = 1\n\xc3".as_slice(),
@@ -127,8 +127,8 @@ fn blocks_go_by_function_and_number(rt: HostRuntime) -> Result<(), Fail> {
 fn plain_costs_are_1(rt: HostRuntime) -> Result<(), Fail> {
     let alloc = rt.alloc();
     for (text, wanted) in [
-        (TWO_CHOICES, "1 1 1 1 1 1"),
-        (COUNTED, "1 1 1 1"),
+        (TWO_THRESHOLDS, "1 1 1 1 1 1"),
+        (COUNTED_WHILE, "1 1 1 1"),
         (
             "int f(void) { return 1; } int main(void) { f(); return 2; }",
             "1 / 1 1",

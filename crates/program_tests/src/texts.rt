@@ -21,7 +21,7 @@ pub(crate) fn four(row: &str) -> Option<(&str, &str, &str, &str)> {
     Some((first, second, third, fourth))
 }
 
-/// A part with its line feeds.
+/// A part with a line feed for each `@`.
 pub(crate) fn with_lines(alloc: Global, part: &str) -> Result<String, AllocError> {
     let mut lines = String::new(alloc);
     for (number, line) in part.split('@').enumerate() {

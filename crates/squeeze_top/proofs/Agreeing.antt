@@ -114,7 +114,7 @@ bad_priced (Some name) told p t fault some h bad =
 
 same_answer : OneInput → (m : Mode) (p : Program) (t : Costs) (input a b : List ℕ) → IsAnswer m p t input a → IsAnswer m p t input b → a ≡ b
 same_answer one Bound p t input a b h k = h.line ∙ sym k.line
-same_answer one mode.Print p t input a b h k = h ∙ sym k
+same_answer one mode.Print p t input a b h k = h.lines ∙ sym k.lines
 same_answer one mode.Blocks p t input a b h k = h ∙ sym k
 same_answer one Run p t input a b h k =
     let values = one p h.values k.values h.fitting k.fitting (h.spelled ∙ sym k.spelled) in

@@ -1,11 +1,14 @@
 -- What is written for a file whose program is accepted.
 use Rattle.std.specs.Prelude.{◌≡◌, ℕ, ◌+◌, if◌then◌else◌, IsTrue, List, [], ◌∷◌, ◌++◌, codes, decimal}
+use Rattle.c_tree.specs.declared.unit.Unit.{Unit as Tree}
 use Rattle.c_tree.specs.declared.program.Func.{Func}
 use Rattle.c_tree.specs.declared.program.Program.{Program}
 use Rattle.c_tree.specs.declared.program.Costs.{Costs}
 use Rattle.c_tree.specs.declared.program.Input.{Input}
 use Rattle.c_tree.specs.Runs.{fits, run}
 use Rattle.c_tree.specs.Claims.{Above}
+use Rattle.c_tree.specs.Checked.{IsSpelled}
+use Rattle.c_tree.specs.Refusals.{Typed}
 use Rattle.tree_bound.specs.Loops.{has_loop}
 use Rattle.tree_bound.specs.Dear.{bound_of}
 use Rattle.flow_laws.specs.Graphs.{graph}
@@ -14,6 +17,7 @@ use Rattle.c_run.specs.declared.run_end.RunEnd.{RunEnd}
 use Rattle.c_run.specs.declared.run_end.RunEnd.TheVariants.{Ends, Undefined, OverBound}
 use Rattle.c_run.specs.Ends.{ended}
 use Rattle.c_run.specs.InputTexts.{input_text}
+use Rattle.print_laws.specs.Again.{IsReadAs}
 use Rattle.print_laws.specs.Printed.{printed}
 use Rattle.squeeze_top.specs.declared.words.Mode.{Mode}
 use Rattle.squeeze_top.specs.declared.words.Mode.TheVariants.{Bound, Blocks, Run, Print}
@@ -58,8 +62,13 @@ pub record TellsRun (p : Program) (t : Costs) (input text : List ℕ) : Type 0 w
   pub spelled : input_text p values ≡ input
   pub line : text ≡ run_line (ended t (run p values))
 
+-- the text is that of the printed program, and with each entry with which the program is typed it is read as this program
+pub record TellsProgram (p : Program) (text : List ℕ) : Type 0 where
+  pub lines : text ≡ printed p
+  pub again : (unit : Tree) (entry : List ℕ) → IsSpelled unit → Typed unit entry p → IsReadAs text entry p
+
 abbrev pub IsAnswer : Mode → Program → Costs → List ℕ → List ℕ → Type 0
 IsAnswer Bound p t input text = TellsBound p t text
 IsAnswer Blocks p t input text = text ≡ block_lines p.funcs t.by_func
 IsAnswer Run p t input text = TellsRun p t input text
-IsAnswer Print p t input text = text ≡ printed p
+IsAnswer Print p t input text = TellsProgram p text

@@ -5,12 +5,11 @@ use Rattle.c_tree.specs.declared.program.Costs.{Costs}
 use Rattle.c_tree.specs.Runs as runs
 use Rattle.c_run.specs.Ends.{ended}
 use Rattle.c_run.specs.InputTexts.{input_text}
-use Rattle.print_laws.specs.Printed.{printed}
 use Rattle.squeeze_top.specs.declared.answer.Task.{Task}
 use Rattle.squeeze_top.specs.declared.answer.Task.TheVariants.{Bound, Blocks, Run, Print}
 use Rattle.squeeze_top.specs.declared.words.Mode.{Mode}
 use Rattle.squeeze_top.specs.declared.words.Mode.TheVariants as mode
-use Rattle.squeeze_top.specs.Answers.{TellsBound, block_lines, run_line}
+use Rattle.squeeze_top.specs.Answers.{TellsBound, TellsProgram, block_lines, run_line}
 
 -- an input of a run fits
 abbrev pub Suits : Task → Program → Type 0
@@ -29,5 +28,5 @@ IsTaskOf m input p (Run i) = (m ≡ mode.Run) × (input_text p i ≡ input)
 abbrev pub Writes : Task → Program → Costs → List ℕ → Type 0
 Writes Bound p t text = TellsBound p t text
 Writes Blocks p t text = text ≡ block_lines p.funcs t.by_func
-Writes Print p t text = text ≡ printed p
+Writes Print p t text = TellsProgram p text
 Writes (Run i) p t text = text ≡ run_line (ended t (runs.run p i))

@@ -1,4 +1,7 @@
 use super::*;
+use std::fs;
+use std::rt::Files;
+use wc_outside::FileShelf;
 
 #[test]
 fn heights_have_a_limit(rt: HostRuntime) -> Result<(), Fail> {
@@ -73,6 +76,48 @@ fn each_write_fails_in_turn(rt: HostRuntime) -> Result<(), Fail> {
         let status = wcet_main(&rt, alloc, &words, &mut shelf, &mut out, &OpenGate);
         assert_eq!(rt; status.code(), code);
         assert_eq!(rt; out.bytes(), written.as_bytes());
+    }
+    Ok(())
+}
+
+// Words over real files, the status, and what is written, with a line feed for each `@`.
+const REAL: &str = "\
+bound real.c ## 0 ## bound 1@
+bound real.c --costs real.toml ## 0 ## bound 7@
+bound real.c --table real.toml ## 2 ## words refused@
+blocks empty.c ## 3 ## program check NoEntry at 0@
+blocks real.c --costs empty.c ## 4 ## costs Version@
+blocks absent.c ## 5 ## 
+";
+
+fn is_judged<R: AllocGlobal + Files + Abort + Threads + Wait + Sync>(
+    rt: &R,
+    row: &str,
+) -> Result<(), Fail> {
+    let alloc = rt.alloc();
+    let (words, code, text) = fields(row).ok_or("a row has three fields")?;
+    let words: Vec<&str> = words.split(' ').collect(alloc)?;
+    let mut shelf = FileShelf::new(rt);
+    let mut out = sink(alloc, 64, &[])?;
+    let status = wcet_main(rt, alloc, &words, &mut shelf, &mut out, &OpenGate);
+    let status = status.code();
+    assert_eq!(rt; format!(in alloc; "{status}")?.as_str(), code, "{row}");
+    assert_eq!(rt; out.bytes(), with_lines(alloc, text)?.as_bytes(), "{row}");
+    Ok(())
+}
+
+#[test]
+fn real_files_are_judged(rt: HostRuntime) -> Result<(), Fail> {
+    fs::write(&rt, "real.c", RETURN_OF_ZERO)?;
+    fs::write(&rt, "real.toml", "version = 1\ndefault = 7\n")?;
+    fs::write(&rt, "empty.c", "")?;
+    for row in REAL.split('\n') {
+        if !row.is_empty() {
+            is_judged(&rt, row)?;
+        }
+    }
+    for name in ["real.c", "real.toml", "empty.c"] {
+        fs::remove_file(&rt, name)?;
     }
     Ok(())
 }

@@ -11,6 +11,10 @@ fn bounds_with_plain_costs(rt: HostRuntime) -> Result<(), Fail> {
         // The two thresholds: 1 + 1 + 1 + 1 + 1 + 1.
         (TWO_THRESHOLDS, "bound 6\n"),
         (
+            "int main(int x) { int r = 0; if (10 < x) r = 1; if (x < 5) r = 2; return r; }",
+            "bound 6\n",
+        ),
+        (
             "int main(int x) { if (x == 0) return 1; else { x = x + 1; x = x - 2; } return x; }",
             "bound 3\n",
         ),
@@ -56,6 +60,27 @@ fn bounds_with_plain_costs(rt: HostRuntime) -> Result<(), Fail> {
         ),
     ] {
         judged(&rt, &["bound", "f.c"], text, "", 0, line)?;
+    }
+    Ok(())
+}
+
+#[test]
+fn blocks_with_plain_costs(rt: HostRuntime) -> Result<(), Fail> {
+    for (program, code, text) in [
+        (RETURN_OF_ZERO, 0, "main:0 1\n"),
+        ("", 3, "program check NoEntry at 0\n"),
+        (
+            "int main(int n) { while (n > 0) n--; return n; }",
+            3,
+            "program check NoBound at 18\n",
+        ),
+        (
+            "extern int a[64]; int main(int n) { return n; }",
+            3,
+            "program check Inputs at 11\n",
+        ),
+    ] {
+        judged(&rt, &["blocks", "f.c"], program, "", code, text)?;
     }
     Ok(())
 }
