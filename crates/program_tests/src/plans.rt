@@ -18,9 +18,12 @@ pub(crate) fn plan_of(alloc: Global, text: &str, table: &str) -> Result<Plan, Fa
     Ok(plan(alloc, program, costs)?)
 }
 
+/// The table of plain costs.
+pub(crate) const PLAIN: &str = "version = 1@default = 1";
+
 /// The plan of a text whose blocks cost 1 each.
 pub(crate) fn plain_plan_of(alloc: Global, text: &str) -> Result<Plan, Fail> {
-    plan_of(alloc, text, "version = 1@default = 1")
+    plan_of(alloc, text, PLAIN)
 }
 
 // What a row shows, the text, how many nodes, edges and loop copies its plan has, and the caps of the nodes in order.
@@ -51,11 +54,13 @@ a loop called in a loop ## int f(int n) {@#pragma loopbound 2@while (n) n--; ret
 a function that is not called ## void f(int n) {@#pragma loopbound 2@while (n) n--; } int main(void) { return 0; } ## 3 2 0 ## 1 1 1
 ";
 
-fn counts(alloc: Global, plan: &Plan) -> Result<String, AllocError> {
+/// How many nodes, edges and loop copies the plan of a text has.
+pub(crate) fn counts_of(alloc: Global, text: &str) -> Result<String, Fail> {
+    let plan = plain_plan_of(alloc, text)?;
     let nodes = plan.nodes();
     let edges = plan.edges();
     let loops = plan.loops().len();
-    format!(in alloc; "{nodes} {edges} {loops}")
+    Ok(format!(in alloc; "{nodes} {edges} {loops}")?)
 }
 
 // The caps of all nodes.
@@ -71,13 +76,15 @@ fn caps(alloc: Global, plan: &Plan) -> Result<String, AllocError> {
     Ok(shown)
 }
 
+fn caps_of(alloc: Global, text: &str) -> Result<String, Fail> {
+    let plan = plain_plan_of(alloc, text)?;
+    Ok(caps(alloc, &plan)?)
+}
+
 fn is_planned(rt: &impl Abort, alloc: Global, row: &str) -> Result<(), Fail> {
     let (note, text, wanted, each) = four(row).ok_or("a row has four parts")?;
-    let plan = plain_plan_of(alloc, text)?;
-    let counts = counts(alloc, &plan)?;
-    assert_eq!(rt; counts.as_str(), wanted, "{note}");
-    let caps = caps(alloc, &plan)?;
-    assert_eq!(rt; caps.as_str(), each, "{note}");
+    assert_eq!(rt; counts_of(alloc, text)?.as_str(), wanted, "{note}");
+    assert_eq!(rt; caps_of(alloc, text)?.as_str(), each, "{note}");
     Ok(())
 }
 
@@ -163,13 +170,20 @@ fn loop_copies(alloc: Global, plan: &Plan) -> Result<String, AllocError> {
     Ok(shown)
 }
 
+fn edges_of(alloc: Global, text: &str) -> Result<String, Fail> {
+    let plan = plain_plan_of(alloc, text)?;
+    Ok(edges(alloc, &plan)?)
+}
+
+fn loops_of(alloc: Global, text: &str) -> Result<String, Fail> {
+    let plan = plain_plan_of(alloc, text)?;
+    Ok(loop_copies(alloc, &plan)?)
+}
+
 fn is_joined(rt: &impl Abort, alloc: Global, row: &str) -> Result<(), Fail> {
     let (text, joined, copies) = three(row).ok_or("a row has three parts")?;
-    let plan = plain_plan_of(alloc, text)?;
-    let edges = edges(alloc, &plan)?;
-    assert_eq!(rt; edges.as_str(), joined, "{text}");
-    let loops = loop_copies(alloc, &plan)?;
-    assert_eq!(rt; loops.as_str(), copies, "{text}");
+    assert_eq!(rt; edges_of(alloc, text)?.as_str(), joined, "{text}");
+    assert_eq!(rt; loops_of(alloc, text)?.as_str(), copies, "{text}");
     Ok(())
 }
 
@@ -202,52 +216,85 @@ fn node(alloc: Global, node: &Node) -> Result<String, AllocError> {
     Ok(shown)
 }
 
-// Entry, Exit and the landings have no block; a landing stands where its call does.
-#[test]
-fn nodes_stand_in_calls(rt: HostRuntime) -> Result<(), Fail> {
-    let alloc = rt.alloc();
-    let text = "void g(void) { ; } void f(void) { g(); } int main(void) { f(); }";
-    let plan = plain_plan_of(alloc, text)?;
+// All nodes.
+fn nodes(alloc: Global, plan: &Plan) -> Result<String, AllocError> {
     let mut shown = String::new(alloc);
     for n in 0..plan.nodes() {
         shown.push_str(node(alloc, plan.node(n))?.as_str())?;
         shown.push(' ')?;
     }
+    Ok(shown)
+}
+
+fn nodes_of(alloc: Global, text: &str) -> Result<String, Fail> {
+    let plan = plain_plan_of(alloc, text)?;
+    Ok(nodes(alloc, &plan)?)
+}
+
+// Entry, Exit and the landings have no block; a landing stands where its call does.
+#[test]
+fn nodes_stand_in_calls(rt: HostRuntime) -> Result<(), Fail> {
+    let text = "void g(void) { ; } void f(void) { g(); } int main(void) { f(); }";
+    let shown = nodes_of(rt.alloc(), text)?;
     assert_eq!(rt; shown.as_str(), "- - 2:0 1:0/2:0 0:0/2:0/1:0 -/2:0 - ");
     Ok(())
 }
 
+// How many copies of blocks a plan has, the number of its entry function, and for how many functions it has costs.
+fn parts(plan: &Plan) -> (u32, u32, usize) {
+    let entry = plan.program().entry;
+    let rows = plan.costs().by_func.len();
+    (plan.copies(), entry, rows)
+}
+
+fn parts_of(alloc: Global, text: &str) -> Result<(u32, u32, usize), Fail> {
+    let plan = plain_plan_of(alloc, text)?;
+    Ok(parts(&plan))
+}
+
 #[test]
-fn two_choices_are_planned(rt: HostRuntime) -> Result<(), Fail> {
-    let plan = plan_of(rt.alloc(), TWO_THRESHOLDS, TWO_THRESHOLDS_TABLE)?;
-    assert_eq!(rt; plan.nodes(), 8);
-    assert_eq!(rt; plan.edges(), 9);
-    assert_eq!(rt; plan.copies(), 6);
-    assert!(rt; plan.loops().is_empty());
-    assert_eq!(rt; plan.program().entry, 0);
-    assert_eq!(rt; plan.costs().by_func.len(), 1);
+fn two_thresholds_are_planned(rt: HostRuntime) -> Result<(), Fail> {
+    assert_eq!(rt; counts_of(rt.alloc(), TWO_THRESHOLDS)?.as_str(), "8 9 0");
+    let (copies, entry, rows) = parts_of(rt.alloc(), TWO_THRESHOLDS)?;
+    assert!(rt; copies == 6 && entry == 0 && rows == 1);
     Ok(())
+}
+
+// Whether a list of edges follows the plan of a text, and whether it keeps its bounds.
+fn judged(alloc: Global, text: &str, list: &[u16]) -> Result<(bool, bool), Fail> {
+    let plan = plain_plan_of(alloc, text)?;
+    Ok((plan.follows(list), plan.keeps(list)))
 }
 
 #[test]
 fn lists_are_followed(rt: HostRuntime) -> Result<(), Fail> {
-    let plan = plan_of(rt.alloc(), TWO_THRESHOLDS, TWO_THRESHOLDS_TABLE)?;
-    assert!(rt; plan.follows(&[0, 1, 2, 4, 6, 8]));
-    assert!(rt; !plan.follows(&[0, 1, 2, 5]));
-    assert!(rt; !plan.follows(&[0, 9]));
-    assert!(rt; plan.keeps(&[0, 1, 2]));
-    assert!(rt; !plan.keeps(&[9]));
+    let alloc = rt.alloc();
+    assert!(rt; judged(alloc, TWO_THRESHOLDS, &[0, 1, 2, 4, 6, 8])? == (true, true));
+    assert!(rt; judged(alloc, TWO_THRESHOLDS, &[0, 1, 2])? == (true, true));
+    assert!(rt; judged(alloc, TWO_THRESHOLDS, &[0, 1, 2, 5])? == (false, true));
+    assert!(rt; judged(alloc, TWO_THRESHOLDS, &[0, 9])? == (false, false));
     Ok(())
 }
 
+// What the edges of two thresholds cost.
+fn edge_costs(alloc: Global) -> Result<String, Fail> {
+    let plan = plan_of(alloc, TWO_THRESHOLDS, TWO_THRESHOLDS_TABLE)?;
+    Ok(costs_of_edges(alloc, &plan)?)
+}
+
+fn costs_of_edges(alloc: Global, plan: &Plan) -> Result<String, AllocError> {
+    let mut shown = String::new(alloc);
+    for e in 0..plan.edges() as u16 {
+        let cost = plan.cost(e);
+        shown.push_str(format!(in alloc; "{cost} ")?.as_str())?;
+    }
+    Ok(shown)
+}
+
 #[test]
-fn parts_are_read(rt: HostRuntime) -> Result<(), Fail> {
-    let plan = plan_of(rt.alloc(), TWO_THRESHOLDS, TWO_THRESHOLDS_TABLE)?;
-    assert_eq!(rt; plan.edges(), 9);
-    assert_eq!(rt; plan.edge(3).to, 5);
-    assert_eq!(rt; plan.cost(4), 50);
-    assert_eq!(rt; plan.nodes(), 8);
-    assert_eq!(rt; plan.node(4).cap, 1);
+fn edges_cost_what_their_sources_do(rt: HostRuntime) -> Result<(), Fail> {
+    let shown = edge_costs(rt.alloc())?;
+    assert_eq!(rt; shown.as_str(), "0 1 1 1 50 1 1 40 1 ");
     Ok(())
 }
 
@@ -263,21 +310,19 @@ fn turning(alloc: Global, turns: usize) -> Result<Vec<u16>, AllocError> {
 #[test]
 fn a_loop_keeps_its_bound(rt: HostRuntime) -> Result<(), Fail> {
     let alloc = rt.alloc();
-    let plan = plain_plan_of(alloc, COUNTED_WHILE)?;
     for (turns, wanted) in [(0, true), (1, true), (10, true), (11, false)] {
         let list = turning(alloc, turns)?;
-        assert!(rt; plan.follows(&list), "{turns}");
-        assert_eq!(rt; plan.keeps(&list), wanted, "{turns}");
+        let judged = judged(alloc, COUNTED_WHILE, &list)?;
+        assert!(rt; judged == (true, wanted), "{turns}");
     }
     Ok(())
 }
 
-// Ten blocks of `main` and five of the clamping function, Entry, Exit and a landing.
+// Ten blocks of `main` and five of the clamping function.
 #[test]
 fn the_filter_is_planned(rt: HostRuntime) -> Result<(), Fail> {
-    let plan = plain_plan_of(rt.alloc(), CLAMP_FILTER)?;
-    assert_eq!(rt; plan.copies(), 15);
-    assert_eq!(rt; plan.nodes(), 18);
+    let (copies, entry, rows) = parts_of(rt.alloc(), CLAMP_FILTER)?;
+    assert!(rt; copies == 15 && entry == 1 && rows == 2);
     Ok(())
 }
 

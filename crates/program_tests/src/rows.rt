@@ -4,13 +4,12 @@ ghost use Rattle.std.specs.Prelude.{◌≡◌, IfOk, [], ◌∷◌};
 ghost use Rattle.ipet_rows.specs.Worked.{plus, at_most};
 
 use crate::examples::{COUNTED_WHILE, TWO_THRESHOLDS, TWO_THRESHOLDS_TABLE};
-use crate::plans::{plain_plan_of, plan_of};
+use crate::plans::{PLAIN, counts_of, plain_plan_of, plan_of};
 use crate::texts::two;
 use flow_graph::Plan;
 use ipet_rows::{SoundRow, SoundRows, caps_bound, caps_box, rows};
 use lin_rows::{Row, RowKind};
 use std::alloc::{AllocError, Global};
-use std::process::Abort;
 use std::test::Fail;
 use typed_laws::is_well_formed;
 
@@ -52,12 +51,24 @@ int main(void) {@#pragma loopbound 2@for (;;) ; } ## 1*0 = 1, -1*0 1*1 1*2 -1*3 
 int main(int n) { if (n) n = 1; else n = 2;@#pragma loopbound 3@while (n) ; } ## 1*0 = 1, -1*0 1*1 1*2 = 0, -1*1 1*3 = 0, -1*2 1*4 = 0, -1*3 -1*4 1*5 1*6 -1*7 = 0, -1*5 1*7 = 0, -3*3 -3*4 1*5 <= 0
 ";
 
-fn has_rows(rt: &impl Abort, alloc: Global, text: &str, wanted: &str) -> Result<(), Fail> {
+// The rows of a text's plan.
+fn rows_of(alloc: Global, text: &str) -> Result<String, Fail> {
     let plan = plain_plan_of(alloc, text)?;
     let sound = rows(alloc, &plan)?;
-    let shown = shown(alloc, sound.rows().rows())?;
-    assert_eq!(rt; shown.as_str(), wanted, "{text}");
-    Ok(())
+    Ok(shown(alloc, sound.rows().rows())?)
+}
+
+// How many there are.
+fn row_count(alloc: Global, text: &str) -> Result<usize, Fail> {
+    let plan = plain_plan_of(alloc, text)?;
+    let sound = rows(alloc, &plan)?;
+    Ok(sound.rows().rows().len())
+}
+
+// The bound by caps of a text's plan.
+fn bound_of(alloc: Global, text: &str, table: &str) -> Result<u128, Fail> {
+    let plan = plan_of(alloc, text, table)?;
+    Ok(caps_bound(&plan))
 }
 
 #[test]
@@ -65,7 +76,8 @@ fn plans_have_these_rows(rt: HostRuntime) -> Result<(), Fail> {
     for row in ROWS.split('\n') {
         if !row.is_empty() {
             let (text, wanted) = two(row).ok_or("a row has two parts")?;
-            has_rows(&rt, rt.alloc(), text, wanted)?;
+            let shown = rows_of(rt.alloc(), text)?;
+            assert_eq!(rt; shown.as_str(), wanted, "{text}");
         }
     }
     Ok(())
@@ -97,39 +109,68 @@ fn rows_with<'p>(rows: SoundRows<'p>, row: SoundRow<'p>) -> usize
     }
 }
 
-#[test]
-fn a_row_is_added_to_those_of_two_choices(rt: HostRuntime) -> Result<(), Fail> {
-    let alloc = rt.alloc();
-    let plan = plan_of(alloc, TWO_THRESHOLDS, TWO_THRESHOLDS_TABLE)?;
+// How many rows two thresholds have with one more.
+fn count_with_one_more(alloc: Global) -> Result<usize, Fail> {
+    let plan = plain_plan_of(alloc, TWO_THRESHOLDS)?;
     let row = sound_row(&plan, at_most_once(alloc)?);
-    let seven = rows(alloc, &plan)?;
-    assert_eq!(rt; seven.rows().rows().len(), 7);
-    assert_eq!(rt; seven.rows().edges, 9);
-    assert_eq!(rt; seven.plan().edges(), 9);
-    assert_eq!(rt; rows_with(seven, row), 8);
+    let rows = rows(alloc, &plan)?;
+    Ok(rows_with(rows, row))
+}
+
+#[test]
+fn a_row_is_added_to_those_of_two_thresholds(rt: HostRuntime) -> Result<(), Fail> {
+    assert_eq!(rt; row_count(rt.alloc(), TWO_THRESHOLDS)?, 7);
+    assert_eq!(rt; count_with_one_more(rt.alloc())?, 8);
     Ok(())
+}
+
+// How many edges the rows of two thresholds are over, by themselves and by their plan.
+fn edge_counts(alloc: Global) -> Result<(u32, u32), Fail> {
+    let plan = plain_plan_of(alloc, TWO_THRESHOLDS)?;
+    let sound = rows(alloc, &plan)?;
+    Ok((sound.rows().edges, sound.plan().edges()))
+}
+
+#[test]
+fn rows_are_over_the_edges_of_their_plan(rt: HostRuntime) -> Result<(), Fail> {
+    let (edges, of_plan) = edge_counts(rt.alloc())?;
+    assert!(rt; edges == 9 && of_plan == 9);
+    Ok(())
+}
+
+// Whether the edges of two thresholds have these costs.
+fn has_costs(alloc: Global, costs: &[u64]) -> Result<bool, Fail> {
+    let plan = plan_of(alloc, TWO_THRESHOLDS, TWO_THRESHOLDS_TABLE)?;
+    let sound = rows(alloc, &plan)?;
+    Ok(sound.objective().costs() == costs)
 }
 
 #[test]
 fn edges_cost_what_their_sources_do(rt: HostRuntime) -> Result<(), Fail> {
-    let plan = plan_of(rt.alloc(), TWO_THRESHOLDS, TWO_THRESHOLDS_TABLE)?;
-    let sound = rows(rt.alloc(), &plan)?;
     let costs = [0, 1, 1, 1, 50, 1, 1, 40, 1];
-    assert_eq!(rt; sound.objective().costs(), costs.as_slice());
-    assert_eq!(rt; caps_bound(&plan), 96);
+    assert!(rt; has_costs(rt.alloc(), &costs)?);
+    assert_eq!(rt;
+        bound_of(rt.alloc(), TWO_THRESHOLDS, TWO_THRESHOLDS_TABLE)?,
+        96
+    );
     Ok(())
+}
+
+// Whether the counts of a text's edges lie within these limits.
+fn has_limits(alloc: Global, text: &str, limits: &[(u64, u64)]) -> Result<bool, Fail> {
+    let plan = plain_plan_of(alloc, text)?;
+    let within = caps_box(alloc, &plan)?;
+    Ok(within.limits() == limits)
 }
 
 // 0 + 1 + 11 + 11 + 10 + 1
 #[test]
 fn a_loop_is_bounded_by_its_caps(rt: HostRuntime) -> Result<(), Fail> {
-    let plan = plain_plan_of(rt.alloc(), COUNTED_WHILE)?;
-    assert_eq!(rt; caps_bound(&plan), 34);
-    let within = caps_box(rt.alloc(), &plan)?;
+    let alloc = rt.alloc();
     let limits = [(0, 1), (0, 1), (0, 11), (0, 11), (0, 10), (0, 1)];
-    assert_eq!(rt; within.limits(), limits.as_slice());
-    let six = rows(rt.alloc(), &plan)?;
-    assert_eq!(rt; six.rows().rows().len(), 6);
+    assert!(rt; has_limits(alloc, COUNTED_WHILE, &limits)?);
+    assert_eq!(rt; bound_of(alloc, COUNTED_WHILE, PLAIN)?, 34);
+    assert_eq!(rt; row_count(alloc, COUNTED_WHILE)?, 6);
     Ok(())
 }
 
@@ -141,12 +182,9 @@ const EACH_LOOP: &str =
 #[test]
 fn each_kind_of_loop_has_a_row(rt: HostRuntime) -> Result<(), Fail> {
     let alloc = rt.alloc();
-    let plan = plain_plan_of(alloc, EACH_LOOP)?;
-    assert_eq!(rt; plan.nodes(), 13);
-    assert_eq!(rt; plan.edges(), 15);
-    let sound = rows(alloc, &plan)?;
-    assert_eq!(rt; sound.rows().rows().len(), 15);
-    assert_eq!(rt; caps_bound(&plan), 52);
+    assert_eq!(rt; counts_of(alloc, EACH_LOOP)?.as_str(), "13 15 3");
+    assert_eq!(rt; row_count(alloc, EACH_LOOP)?, 15);
+    assert_eq!(rt; bound_of(alloc, EACH_LOOP, PLAIN)?, 52);
     Ok(())
 }
 
@@ -154,7 +192,6 @@ fn each_kind_of_loop_has_a_row(rt: HostRuntime) -> Result<(), Fail> {
 #[test]
 fn a_callee_costs_as_often_as_its_cap(rt: HostRuntime) -> Result<(), Fail> {
     let table = "version = 1@default = 1@[cost]@\"f:0\" = 10";
-    let plan = plan_of(rt.alloc(), EACH_LOOP, table)?;
-    assert_eq!(rt; caps_bound(&plan), 97);
+    assert_eq!(rt; bound_of(rt.alloc(), EACH_LOOP, table)?, 97);
     Ok(())
 }
