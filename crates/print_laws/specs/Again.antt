@@ -1,4 +1,4 @@
--- What it means that a text is read as a program.
+-- What it is that a text is read as a program.
 use Rattle.std.specs.Prelude.{ℕ, List}
 use Rattle.c_tree.specs.declared.token.Token.{Token}
 use Rattle.c_tree.specs.declared.unit.Unit.{Unit as Tree}
