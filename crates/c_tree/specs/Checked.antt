@@ -8,12 +8,16 @@ use Rattle.c_tree.specs.Lexing.{Lexes}
 use Rattle.c_tree.specs.Spelling.{Spells}
 use Rattle.c_tree.specs.Refusals.{Typed}
 
--- the tokens of some text spell the unit
-pub record IsSpelled (unit : Tree) : Type 0 where
-  pub text : List ℕ
+-- the tokens of the text spell the unit
+pub record IsUnitOf (text : List ℕ) (unit : Tree) : Type 0 where
   pub tokens : List Token
   pub lexed : Lexes text tokens
   pub spelled : Spells text tokens unit
+
+-- those of some text do
+pub record IsSpelled (unit : Tree) : Type 0 where
+  pub text : List ℕ
+  pub read : IsUnitOf text unit
 
 -- the program is typed from such a unit
 pub record IsProgram (program : Program) : Type 0 where

@@ -36,7 +36,7 @@ pub struct Func {
 }
 
 /// A program: its globals and functions in the order of the text, and the number of its entry function. It is typed from a
-/// unit that the tokens of some text spell, and so only checking makes one.
+/// unit that the tokens of some text spell: only checking makes one, and copying one makes another.
 #[derive(Drop)]
 pub struct Program {
     pub globals: Items<Global>,

@@ -89,4 +89,4 @@ tops_named (more {xs = xs} {ys = ys} d ds) h =
     (tops_append xs ys x.0 y.0, y.1)
 
 pub unit_named : (u : Tree) → IsSpelled u → AreNamedTops u.tops
-unit_named u h = (tops_named h.spelled.tops (lexemes_named h.text h.tokens h.lexed)).0
+unit_named u h = (tops_named h.read.spelled.tops (lexemes_named h.text h.read.tokens h.read.lexed)).0

@@ -1,4 +1,4 @@
--- What pieces put before the text of others.
+-- Pieces that put their text before that of the pieces behind them.
 use Rattle.std.proofs.Common.{◌≡◌, ℕ, zero, suc, List, [], ◌∷◌, ◌++◌, refl, ◌∙◌, ap}
 use Rattle.std.specs.Prelude.{codes}
 use Rattle.print_laws.specs.PrintedStatements.{margin, line}

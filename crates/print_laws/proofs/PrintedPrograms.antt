@@ -20,9 +20,11 @@ read_again unit entry p spelled typed =
     let y = program_spelled p d in
     let tree : Tree = record { tops = y.tops; end = length (printed p) } in
     record {
-      tokens = tokens_of 0 (program_pieces p d);
-      lexed = printed_lexes p d;
       unit = tree;
-      spelled = record { tops = subst (λ ls. Tops ls y.tops []) (sym (printed_lexemes p d)) y.spells; ends = refl };
+      read = record {
+        tokens = tokens_of 0 (program_pieces p d);
+        lexed = printed_lexes p d;
+        spelled = record { tops = subst (λ ls. Tops ls y.tops []) (sym (printed_lexemes p d)) y.spells; ends = refl };
+      };
       typed = typed_again unit tree entry p spelled typed (y.shows (length (printed p)));
     }

@@ -1,4 +1,4 @@
--- The programs that a text has: each name is an identifier, each number is of its type, and each part is where its text needs it.
+-- The programs that can be printed and read: each name is an identifier, each number is of its type, and each part is where its text needs it.
 use Rattle.std.specs.Prelude.{◌≡◌, ℕ, ◌≤◌, Bool, IsTrue, List, [], ◌∷◌, slice_get, Option, Some, None}
 use Rattle.c_tree.specs.declared.tree.Expr.{Expr}
 use Rattle.c_tree.specs.declared.tree.Place.{Place}

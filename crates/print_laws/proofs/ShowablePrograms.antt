@@ -45,5 +45,5 @@ made_showable u entry spelled formed =
 
 pub showable : (u : Tree) (entry : List ℕ) (p : Program) → IsSpelled u → Typed u entry p → IsShowableProgram p
 showable u entry p spelled typed =
-    let formed = shaped_typed_formed u entry p (unit_shaped spelled.text spelled.tokens u spelled.lexed spelled.spelled) typed in
+    let formed = shaped_typed_formed u entry p (unit_shaped spelled.text spelled.read.tokens u spelled.read.lexed spelled.read.spelled) typed in
     subst IsShowableProgram (sym typed.named) (made_showable u entry spelled (subst WellFormed typed.named formed))

@@ -140,7 +140,7 @@ sound_uses v clean = clean
 
 formed_of : (u : Tree) (entry : List ℕ) (p : Program) → IsSpelled u → Typed u entry p → WellFormed p
 formed_of u entry p spelled typed =
-    shaped_typed_formed u entry p (unit_shaped spelled.text spelled.tokens u spelled.lexed spelled.spelled) typed
+    shaped_typed_formed u entry p (unit_shaped spelled.text spelled.read.tokens u spelled.read.lexed spelled.read.spelled) typed
 
 pub typed_again : (u v : Tree) (entry : List ℕ) (p : Program) → IsSpelled u → Typed u entry p → ShowsProgram v p → Typed v entry p
 typed_again u v entry p spelled typed shows =

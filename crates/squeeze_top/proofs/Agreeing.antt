@@ -67,7 +67,7 @@ one_refused one text entry u p (Some r) read refused accepted =
     no_fault u entry r (subst (λ w. faults w entry ≡ []) same accepted.spells.typed.sound) refused.stands
 
 no_text : OneUnit → (refusal : Refusal) (text entry : List ℕ) (p : Program) → RefusesText refusal text entry → IsAccepted text entry p → ⊥
-no_text one (Tokens fault) text entry p h accepted = h.none accepted.spells.read.tokens accepted.spells.read.lexed
+no_text one (Tokens fault) text entry p h accepted = h.none accepted.spells.read.of_text.tokens accepted.spells.read.of_text.lexed
 no_text one (Parse fault) text entry p h accepted = h.none accepted.spells.unit accepted.spells.read
 no_text one (Check fault) text entry p h accepted = one_refused one text entry h.unit p (told fault) h.read h.refused accepted
 no_text one Words text entry p h accepted = h

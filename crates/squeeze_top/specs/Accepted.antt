@@ -4,7 +4,7 @@ use Rattle.c_tree.specs.declared.token.Token.{Token}
 use Rattle.c_tree.specs.declared.unit.Unit.{Unit as Tree}
 use Rattle.c_tree.specs.declared.program.Program.{Program}
 use Rattle.c_tree.specs.Lexing.{Lexes}
-use Rattle.c_tree.specs.Spelling.{Spells}
+use Rattle.c_tree.specs.Checked.{IsUnitOf}
 use Rattle.c_tree.specs.Heights.{unit_height}
 use Rattle.c_tree.specs.Refusals.{Typed, IsRefused}
 use Rattle.c_token.specs.declared.fault.TokenFault.{TokenFault}
@@ -20,9 +20,7 @@ use Rattle.squeeze_top.specs.declared.refusal.Refusal.TheVariants.{Words, Size, 
 
 -- the text's tokens spell the unit, which is no higher than 128
 pub record IsRead (text : List ℕ) (unit : Tree) : Type 0 where
-  pub tokens : List Token
-  pub lexed : Lexes text tokens
-  pub spelled : Spells text tokens unit
+  pub of_text : IsUnitOf text unit
   pub low : unit_height unit ≤ 128
 
 -- the text's unit is typed with this entry, as the program
