@@ -52,8 +52,8 @@ pub fn check(alloc: Global, unit: Unit, entry: &str) -> Result<Program, CheckFau
     })
 }
 
-/// The parts of the program of any unit, where no fault stands; else the first fault.
-pub(crate) fn faultless(alloc: Global, unit: &Unit, entry: &str) -> Result<Named, CheckFault>
+// The parts of the program of any unit, where no fault stands; else the first fault.
+fn faultless(alloc: Global, unit: &Unit, entry: &str) -> Result<Named, CheckFault>
     ensures named { IfOk result (λ n. Typed unit.now entry.now (with_parts n)) }
     ensures refused { IfErr result (λ e. IfSome (told e) (IsRefused unit.now entry.now)) }
 {

@@ -16,6 +16,3 @@ mod verdict;
 
 pub use checking::check;
 pub use fault::CheckFault;
-
-#[cfg(test)]
-mod tests;

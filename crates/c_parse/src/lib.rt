@@ -15,7 +15,4 @@ mod symbol;
 mod unit;
 
 pub use fault::ParseFault;
-pub use parsing::{one_tree, parse};
-
-#[cfg(test)]
-mod tests;
+pub use parsing::{one_tree, ordered_tokens_are_within, parse};

@@ -4,6 +4,7 @@ ghost use Rattle.std.specs.Prelude.{◌≡◌, ◌<◌, ◌≤◌, ◌^◌, ℕ,
 ghost use Rattle.c_tree.specs.declared.token.Token.{Token};
 ghost use Rattle.c_tree.specs.declared.unit.Unit.{Unit as Tree};
 ghost use Rattle.c_tree.specs.Heights.{unit_height};
+ghost use Rattle.c_tree.specs.Places.{AreInOrder};
 ghost use Rattle.c_tree.specs.Spelling.{Spells};
 ghost use Rattle.c_parse.specs.Answers.{Gives, IsPlace, IsRefusal};
 ghost use Rattle.c_parse.specs.Lexeme.{IsWithin};
@@ -67,4 +68,9 @@ pub fn parse(alloc: Global, text: &[u8], tokens: &[Token]) -> Result<Unit, Parse
 pub fn one_tree()
     ensures { (text : List ℕ) (tokens : List Token) (a b : Tree)
         → Spells text tokens a → Spells text tokens b → a ≡ b }
+{}
+
+/// The law that tokens in order lie within their text, as `parse` asks.
+pub fn ordered_tokens_are_within()
+    ensures { (text : List ℕ) (tokens : List Token) → AreInOrder 0 tokens (length text) → All (IsWithin text) tokens }
 {}

@@ -1,5 +1,5 @@
-//! Tests of the public calls on programs. Only reading a text makes a program, so these calls are tested here, above the
-//! readers, and not in their own crates. No code but tests stands in this crate.
+//! Tests of the public calls on texts and programs. Only reading a text makes a program, so these calls are tested here, above
+//! the readers, and not in their own crates. No code but tests stands in this crate.
 //!
 //! `reading` makes the programs, `examples` has texts that several modules read, `texts` takes tables apart; each other module
 //! tests the calls of one crate.
@@ -13,6 +13,8 @@ mod checks;
 mod copies;
 #[cfg(test)]
 mod examples;
+#[cfg(test)]
+mod grammar;
 #[cfg(test)]
 mod plans;
 #[cfg(test)]

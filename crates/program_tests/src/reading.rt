@@ -7,7 +7,7 @@ ghost use Rattle.c_parse.specs.Lexeme.{IsWithin};
 
 use crate::texts::with_lines;
 use c_check::check;
-use c_parse::parse;
+use c_parse::{ordered_tokens_are_within, parse};
 use c_token::tokens;
 use c_tree::{Program, Token, Unit};
 use std::alloc::Global;
@@ -36,11 +36,12 @@ pub(crate) fn unit_of(alloc: Global, text: &[u8]) -> Result<Unit, Fail>
     Ok(parse(alloc, text, &tokens)?)
 }
 
-// The tokens of a text.
-fn tokens_of(alloc: Global, text: &[u8]) -> Result<Vec<Token>, Fail>
+/// The tokens of a text.
+pub(crate) fn tokens_of(alloc: Global, text: &[u8]) -> Result<Vec<Token>, Fail>
     requires { length text.now ≤ 1048576 }
     ensures lexed { IfOk result (λ ts. Lexes text.now ts.items) }
     ensures within { IfOk result (λ ts. All (IsWithin text.now) ts.items) }
 {
+    ordered_tokens_are_within();
     Ok(tokens(alloc, text)?)
 }

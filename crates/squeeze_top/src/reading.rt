@@ -13,7 +13,7 @@ ghost use Rattle.squeeze_top.specs.Halts.{IsTextHalt, token_halt, parse_halt, ch
 
 use crate::refusal::{Halt, Refusal};
 use c_check::{CheckFault, check};
-use c_parse::{ParseFault, one_tree, parse};
+use c_parse::{ParseFault, one_tree, ordered_tokens_are_within, parse};
 use c_token::{TokenFault, one_reading, tokens};
 use c_tree::{Program, Token, Unit};
 use std::alloc::Global;
@@ -81,6 +81,7 @@ fn tokens_of(alloc: Global, text: &[u8]) -> Result<Vec<Token>, Halt>
     ensures within { IfOk result (λ v. All (IsWithin text.now) v.items) }
     ensures halted { (entry : List ℕ) → IfErr result (λ halt. IsTextHalt halt text.now entry) }
 {
+    ordered_tokens_are_within();
     match tokens(alloc, text) {
         Ok(tokens) => Ok(tokens),
         Err(fault) => Err(token_halt(fault)),

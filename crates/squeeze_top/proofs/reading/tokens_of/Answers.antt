@@ -1,9 +1,6 @@
 use Rattle.std.proofs.Common.{◌≡◌}
-use Rattle.squeeze_top.proofs.Refusing.{in_order_within, token_failed}
+use Rattle.squeeze_top.proofs.Refusing.{token_failed}
 use Rattle.squeeze_top.proofs.reading.tokens_of.Goals as goal
-
-pub returns-in-Ok-clause-within : goal.returns-in-Ok-clause-within
-returns-in-Ok-clause-within c = in_order_within c.args.text.now c.in-Ok.tokens.items c.in-Ok.ensures.in_order
 
 pub returns-in-Err-clause-halted : goal.returns-in-Err-clause-halted
 returns-in-Err-clause-halted c entry =

@@ -244,9 +244,9 @@ fn top(out: &mut String, top: &RawTop) -> Result<(), AllocError> {
     }
 }
 
-/// The text of the tree, after the length of its text.
+/// The tree of a unit, after its end.
 pub fn shown(alloc: Global, unit: &Unit) -> Result<String, AllocError> {
-    let mut out = format!(in alloc; "{}: ", unit.end)?;
+    let mut out = format!(in alloc; "{}:", unit.end)?;
     for one in unit.tops.as_slice() {
         top(&mut out, one)?;
     }
