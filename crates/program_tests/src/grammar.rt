@@ -126,7 +126,10 @@ fn nested(
 fn has_height(rt: &impl Abort, alloc: Global, row: &str) -> Result<(), Fail> {
     let (head, opening, middle, rest) = four(row).ok_or("a row has six parts")?;
     let (closing, tail, most) = three(rest).ok_or("a row has six parts")?;
-    let most = most.parse::<usize>().ok().ok_or("a row ends with a number")?;
+    let most = most
+        .parse::<usize>()
+        .ok()
+        .ok_or("a row ends with a number")?;
     let inner = (opening, middle, closing);
     let low = nested(alloc, (head, tail), inner, most)?;
     assert_eq!(rt; refused_at(alloc, low.as_str())?, None, "{row}");
@@ -147,7 +150,9 @@ fn have_heights(rt: &impl Abort, alloc: Global, table: &str) -> Result<(), Fail>
 /// The middle piece between the others, as often as the longest text has room for it.
 fn long(alloc: Global, head: &str, piece: &str, tail: &str) -> Result<String, AllocError> {
     let mut text = String::from_str(alloc, head)?;
-    let room = LONGEST.saturating_sub(head.len()).saturating_sub(tail.len());
+    let room = LONGEST
+        .saturating_sub(head.len())
+        .saturating_sub(tail.len());
     for _ in 0..room / piece.len().max(1) {
         text.push_str(piece)?;
     }
