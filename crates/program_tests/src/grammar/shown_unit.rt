@@ -245,7 +245,7 @@ fn top(out: &mut String, top: &RawTop) -> Result<(), AllocError> {
 }
 
 /// The tree of a unit, after its end.
-pub fn shown(alloc: Global, unit: &Unit) -> Result<String, AllocError> {
+pub(super) fn shown(alloc: Global, unit: &Unit) -> Result<String, AllocError> {
     let mut out = format!(in alloc; "{}:", unit.end)?;
     for one in unit.tops.as_slice() {
         top(&mut out, one)?;
