@@ -38,8 +38,8 @@ impl Costs {
 }
 
 impl Expr {
-    /// An equal expression. `NoMemory` is want of memory.
-    pub fn copy(&self, alloc: Global) -> Result<Expr, NoMemory>
+    // An equal expression.
+    fn copy(&self, alloc: Global) -> Result<Expr, NoMemory>
         ensures { IfOk result (λ e. e ≡ self.now) }
     {
         match self {
@@ -60,15 +60,6 @@ impl Expr {
                 Ok(Expr::Cond(c, a, b))
             }
         }
-    }
-}
-
-impl Stmt {
-    /// An equal statement. `NoMemory` is want of memory.
-    pub fn copy(&self, alloc: Global) -> Result<Stmt, NoMemory>
-        ensures { IfOk result (λ s. s ≡ self.now) }
-    {
-        copy_stmt(alloc, self)
     }
 }
 

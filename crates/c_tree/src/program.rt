@@ -5,7 +5,7 @@ use crate::tree::{Stmt, Ty};
 use sqlite_items::Items;
 use std::marker::Model;
 
-/// A local of a function, a parameter among them. An array has a length, from 1 to 64.
+/// A local of a function, a parameter among them. An array has a length, from 1 to 64 in a checked program.
 #[derive(Drop)]
 pub struct Local {
     pub name: Name,
@@ -13,9 +13,9 @@ pub struct Local {
     pub length: Option<u32>,
 }
 
-/// A variable of file scope. An array has a length, from 1 to 64. `outer` tells `extern`, whose numbers are inputs;
-/// `values` are those of the initialiser, in order and converted to the type. There are none without one, and a short
-/// list stays short.
+/// A variable of file scope. An array has a length, from 1 to 64 in a checked program. `outer` tells `extern`, whose numbers
+/// are inputs; `values` are those of the initialiser, in order and converted to the type. There are none without one, and a
+/// short list stays short.
 #[derive(Drop)]
 pub struct Global {
     pub name: Name,
@@ -36,7 +36,7 @@ pub struct Func {
 }
 
 /// A program: its globals and functions in the order of the text, and the number of its entry function. It is typed from a
-/// unit that the tokens of some text spell: only checking makes one, and copying one makes another.
+/// unit that the tokens of some text spell, which whoever makes one has to prove; checking does, and copying.
 #[derive(Drop)]
 pub struct Program {
     pub globals: Items<Global>,
@@ -67,14 +67,15 @@ pub struct BlockName {
     pub number: u32,
 }
 
-/// The cost of each block: a list for each function, with a number for each of its blocks.
+/// The costs of blocks: a list for each function in order. Costs of a program have a list for each of its functions, with a
+/// number for each block.
 #[derive(Drop)]
 pub struct Costs {
     pub by_func: Items<Items<u32>>,
 }
 
 /// The input numbers of a run: those of the entry function's parameters in order, then those of the extern variables, an
-/// array element by element. Each lies in the range of its type.
+/// array element by element. An input fits a program that asks for as many, each in the range of its type.
 #[derive(Drop)]
 pub struct Input {
     pub values: Items<i64>,

@@ -52,7 +52,7 @@ pub enum Var {
 /// An expression (C11 6.5). Parentheses are not kept.
 #[derive(Drop)]
 pub enum Expr {
-    /// A number of a type (6.4.4.1), by its 32 bits; of an `int` it is at most 2^31 - 1.
+    /// A number of a type (6.4.4.1), by its 32 bits; in a checked program one of an `int` is at most 2^31 - 1.
     Num(Ty, u32),
     /// The value of a scalar.
     Name(Var),
@@ -88,8 +88,8 @@ pub enum Target {
     Declare(u32),
 }
 
-/// A statement (C11 6.8), or a declaration in a list (6.7). The number of a loop is its bound, from 1 to 1,048,576: how
-/// often its body may be entered within one entry of the loop.
+/// A statement (C11 6.8), or a declaration in a list (6.7). The number of a loop is its bound, how often its body may be
+/// entered within one entry of the loop: from 1 to 1,048,576 in a checked program.
 #[derive(Drop)]
 pub enum Stmt {
     /// `;`.
