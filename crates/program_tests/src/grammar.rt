@@ -8,7 +8,7 @@ mod statements;
 mod units;
 
 use crate::reading::tokens_of;
-use crate::texts::{four, three, two, with_lines};
+use crate::texts::{four, is_row, three, two, with_lines};
 use c_parse::{ParseFault, parse};
 use c_tree::Unit;
 use shown_unit::shown;
@@ -81,21 +81,29 @@ fn has_tree(
 /// Each row has a text and its tree.
 fn are_trees(rt: &impl Abort, alloc: Global, frame: &Frame, table: &str) -> Result<(), Fail> {
     for row in table.split('\n') {
-        if let Some((text, tree)) = two(row) {
+        if is_row(row) {
+            let (text, tree) = two(row).ok_or("a row has two parts")?;
             has_tree(rt, alloc, frame, text, tree)?;
         }
     }
     Ok(())
 }
 
+/// A row has a text and the place of its refusal.
+fn is_refused(rt: &impl Abort, alloc: Global, frame: &Frame, row: &str) -> Result<(), Fail> {
+    let (text, place) = two(row).ok_or("a row has two parts")?;
+    let whole = frame.text_of(alloc, text)?;
+    let at = refused_at(alloc, whole.as_str())?.ok_or("the text is read")?;
+    let at = format!(in alloc; "{at}")?;
+    assert_eq!(rt; at.as_str(), place, "{text}");
+    Ok(())
+}
+
 /// Each row has a text and the place of its refusal.
 fn are_refused(rt: &impl Abort, alloc: Global, frame: &Frame, table: &str) -> Result<(), Fail> {
     for row in table.split('\n') {
-        if let Some((text, place)) = two(row) {
-            let whole = frame.text_of(alloc, text)?;
-            let at = refused_at(alloc, whole.as_str())?.ok_or("the text is read")?;
-            let at = format!(in alloc; "{at}")?;
-            assert_eq!(rt; at.as_str(), place, "{text}");
+        if is_row(row) {
+            is_refused(rt, alloc, frame, row)?;
         }
     }
     Ok(())
@@ -140,7 +148,7 @@ fn has_height(rt: &impl Abort, alloc: Global, row: &str) -> Result<(), Fail> {
 
 fn have_heights(rt: &impl Abort, alloc: Global, table: &str) -> Result<(), Fail> {
     for row in table.split('\n') {
-        if row.contains(" ## ") {
+        if is_row(row) {
             has_height(rt, alloc, row)?;
         }
     }
@@ -163,7 +171,8 @@ fn long(alloc: Global, head: &str, piece: &str, tail: &str) -> Result<String, Al
 /// Each row's long text is refused.
 fn spell_nothing(rt: &impl Abort, alloc: Global, table: &str) -> Result<(), Fail> {
     for row in table.split('\n') {
-        if let Some((head, piece, tail)) = three(row) {
+        if is_row(row) {
+            let (head, piece, tail) = three(row).ok_or("a row has three parts")?;
             let text = long(alloc, head, piece, tail)?;
             assert!(rt; refused_at(alloc, text.as_str())?.is_some(), "{piece}");
         }

@@ -1,7 +1,7 @@
 //! Runs of programs, with ends worked out from the rules of C and of blocks and bounds, and the texts of inputs. Each block costs 1
 //! where no table is named.
 
-use crate::examples::{CLAMP_FILTER, CLAMP_FILTER_TABLE};
+use crate::examples::{CLAMP_FILTER, CLAMP_FILTER_TABLE, TWO_THRESHOLDS};
 use crate::reading::main_of;
 use crate::texts::{three, two};
 use c_run::{RunEnd, fits, input_text, read_input, run};
@@ -159,6 +159,16 @@ fn text_of(alloc: Global, program: &Program, input: &Input) -> Result<Vec<u8>, F
         return Err(Fail::new("the input does not fit"));
     }
     Ok(input_text(alloc, program, input)?)
+}
+
+#[test]
+fn an_input_has_its_text(rt: HostRuntime) -> Result<(), Fail> {
+    let alloc = rt.alloc();
+    let program = main_of(alloc, TWO_THRESHOLDS)?;
+    let values = Items::from_slice(alloc, &[5])?;
+    let written = text_of(alloc, &program, &Input { values })?;
+    assert_eq!(rt; written.as_slice(), b"x=5".as_slice());
+    Ok(())
 }
 
 const ALL_SORTS: &str =

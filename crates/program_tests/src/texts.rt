@@ -1,6 +1,12 @@
-//! Tables of tests, as texts: one row a line, with ` ## ` between its parts and `@` for a line feed in a part.
+//! Tables of tests, as texts: one row a line, with ` ## ` between its parts and `@` for a line feed in a part. Lines that are
+//! empty or begin with `//` are no rows.
 
 use std::alloc::{AllocError, Global};
+
+/// Whether a line of a table is a row.
+pub(crate) fn is_row(line: &str) -> bool {
+    !line.is_empty() && !line.starts_with("//")
+}
 
 /// The two parts of a row.
 pub(crate) fn two(row: &str) -> Option<(&str, &str)> {

@@ -1,7 +1,7 @@
 //! File scope: trees, what is no unit, heights and the stack.
 
 use super::{Frame, are_refused, have_heights, long, refused_at, shown_of, spell_nothing};
-use crate::texts::{three, two};
+use crate::texts::{is_row, three, two};
 use c_parse::one_tree;
 use std::test::Fail;
 
@@ -110,7 +110,8 @@ int a[] = {1 ## , 1 ## ,};
 #[test]
 fn trees_of_units(rt: HostRuntime) -> Result<(), Fail> {
     for row in TREES.split('\n') {
-        if let Some((text, tree)) = two(row) {
+        if is_row(row) {
+            let (text, tree) = two(row).ok_or("a row has two parts")?;
             assert_eq!(rt; shown_of(rt.alloc(), text)?.as_str(), tree, "{text}");
         }
     }
@@ -137,7 +138,8 @@ fn long_units(rt: HostRuntime) -> Result<(), Fail> {
 fn legal_units(rt: HostRuntime) -> Result<(), Fail> {
     let alloc = rt.alloc();
     for row in LEGAL.split('\n') {
-        if let Some((head, piece, tail)) = three(row) {
+        if is_row(row) {
+            let (head, piece, tail) = three(row).ok_or("a row has three parts")?;
             let text = long(alloc, head, piece, tail)?;
             assert_eq!(rt; refused_at(alloc, text.as_str())?, None, "{piece}");
         }
