@@ -34,7 +34,8 @@ fn level(op: BinOp) -> u32
     }
 }
 
-// How tightly an expression holds together.
+// How tightly an expression holds together: as the levels of the grammar, but a cast more tightly than a unary operator, so that
+// no unary operator stands right before another.
 fn strength(expr: &Expr) -> u32
     ensures { result ≡ strength expr.now }
 {

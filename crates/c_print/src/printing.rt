@@ -17,7 +17,7 @@ use std::alloc::Global;
 
 /// The text of a program: one declaration or statement a line in the order of the program, the globals first, four blanks
 /// a level, braces always, and the bound of a loop at the beginning of the line before it. It is read again as this program:
-/// the text is tokens, they spell a unit, and with each entry with which the program was typed this unit is typed as the program.
+/// it has tokens that spell a unit, and with each entry with which the program was typed this unit is typed as the program.
 ///
 /// # Errors
 ///

@@ -8,7 +8,7 @@ use crate::exprs::{push_expr, push_exprs};
 use crate::parts::{bin_text, push, push_declaration, push_func_name, push_name};
 use c_tree::{BinOp, Expr, Func, NoMemory, Place, Program, Stmt, Target};
 
-/// A statement of one line, without its semicolon; the others have none of this.
+/// A statement of one line, without its semicolon; of a statement of several lines, nothing.
 #[tactic(auto, using(print_laws::proofs::StmtLayers::simple_layers))]
 pub(crate) fn push_simple(
     text: &mut Vec<u8>,

@@ -5,7 +5,7 @@ use Rattle.c_tree.specs.declared.program.Program.{Program}
 use Rattle.c_tree.specs.Checked.{IsUnitOf}
 use Rattle.c_tree.specs.Refusals.{Typed}
 
--- the text is tokens that spell a unit, of whatever height, which with this entry is typed as the program
+-- the text has tokens that spell a unit, of whatever height, which with this entry is typed as the program
 pub record IsReadAs (text entry : List ℕ) (p : Program) : Type 0 where
   pub unit : Tree
   pub read : IsUnitOf text unit

@@ -79,7 +79,7 @@ unfoldable pub return_text : Program → Func → Option Expr → List ℕ
 return_text p f None = codes "return"
 return_text p f (Some e) = codes "return " ++ expr_text p f e
 
--- a statement of one line, without its semicolon; the others have none of this
+-- a statement of one line, without its semicolon; of a statement of several lines, nothing
 unfoldable pub simple_text : Program → Func → Stmt → List ℕ
 simple_text p f Empty = []
 simple_text p f (Scalar n e) = declaration_text f n ++ value_part p f e

@@ -13,7 +13,7 @@ ghost use Rattle.print_laws.specs.Again.{IsReadAs};
 ghost use Rattle.print_laws.specs.Printed.{printed};
 ghost use Rattle.print_laws.specs.Worked.{return_of_zero, each_construct, a, b, c, shown};
 
-/// A program that is typed from a unit which the tokens of some text spell is read again from its printed text: that is tokens,
+/// A program that is typed from a unit which the tokens of some text spell is read again from its printed text: it has tokens,
 /// they spell a unit, and this is typed with the same entry as the same program.
 pub fn printed_programs_are_read_again()
     ensures { (unit : Tree) (entry : List ℕ) (p : Program) → IsSpelled unit → Typed unit entry p → IsReadAs (printed p) entry p }

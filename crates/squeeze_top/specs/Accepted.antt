@@ -53,7 +53,7 @@ ParseCause (parse.Syntax at) text tokens = IsPlace text tokens at
 ParseCause (parse.Depth at) text tokens = ⊥
 ParseCause parse.NoMemory text tokens = ⊥
 
--- the text is tokens, and they spell no unit that is no higher than 128
+-- the text has tokens, and they spell no unit that is no higher than 128
 pub record HasNoUnit (fault : ParseFault) (text : List ℕ) : Type 0 where
   pub tokens : List Token
   pub lexed : Lexes text tokens
