@@ -14,6 +14,7 @@ use crate::stmts::push_block;
 use c_tree::{Func, Global as Outside, Local, NoMemory, Program, Ty};
 use print_laws::law::printed_programs_are_read_again;
 use std::alloc::Global;
+use typed_laws::program_is_typed;
 
 /// The text of a program: one declaration or statement a line in the order of the program, the globals first, four blanks
 /// a level, braces always, and the bound of a loop at the beginning of the line before it. It is read again as this program:
@@ -24,8 +25,10 @@ use std::alloc::Global;
 /// `NoMemory` is want of memory.
 pub fn print(alloc: Global, program: &Program) -> Result<Vec<u8>, NoMemory>
     ensures text { IfOk result (λ t. t.items ≡ printed program.now) }
+    ensures read { IfOk result (λ t. (entry : List ℕ) × IsReadAs t.items entry program.now) }
     ensures again { (unit : Tree) (entry : List ℕ) → IsSpelled unit → Typed unit entry program.now → IfOk result (λ t. IsReadAs t.items entry program.now) }
 {
+    program_is_typed(program);
     printed_programs_are_read_again();
     printed(alloc, program)
 }

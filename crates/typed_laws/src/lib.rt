@@ -4,4 +4,4 @@
 pub mod laws;
 mod programs;
 
-pub use programs::is_well_formed;
+pub use programs::{program_is_typed, program_is_well_formed};

@@ -10,3 +10,9 @@ of_the_text text P (Err e) t h x = tt
 pub returns-clause-again : goal.returns-clause-again
 returns-clause-again c unit entry spelled typed =
     of_the_text (λ t. t.items) (λ t. IsReadAs t entry c.args.program.now) c.printed.result _ c.printed.ensures (c.printed_programs_are_read_again.ensures unit entry c.args.program.now spelled typed)
+
+pub returns-clause-read : goal.returns-clause-read
+returns-clause-read c =
+    let i = c.program_is_typed.ensures in
+    of_the_text (λ t. t.items) (λ t. (entry : List ℕ) × IsReadAs t entry c.args.program.now) c.printed.result _ c.printed.ensures
+      (i.entry, c.printed_programs_are_read_again.ensures i.unit i.entry c.args.program.now i.spelled i.typed)
