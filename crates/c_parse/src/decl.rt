@@ -1,4 +1,5 @@
-//! Declarations (C11 6.7). `room` is the greatest height of an expression.
+//! Declarations (C11 6.7). `room` is the greatest height of an expression. It is at most 128 in `parse`; that it is
+//! asked to be less than 1,000 keeps the heights that are computed far from an overflow.
 
 ghost use Rattle.std.specs.Prelude.{◌≡◌, ◌<◌};
 ghost use Rattle.c_parse.specs.Parser.{another, another_value, phrases};
@@ -13,6 +14,7 @@ use c_tree::{RawExpr, RawShape, RawStmt, RawTarget, Symbol, Ty};
 use sqlite_items::Items;
 
 impl<'a> Reader<'a> {
+    /// Whether a declaration comes next.
     #[tactic(auto, unfolding(crate::specs::ReadDecl::begins_declaration))]
     pub fn begins_declaration(&self) -> bool
         ensures { result ≡ spec.begins_declaration self.now }
@@ -20,7 +22,7 @@ impl<'a> Reader<'a> {
         self.sees(Symbol::Const) || self.begins_type()
     }
 
-    /// The same before a comma and a `}` too.
+    /// The values of a list, up to its `}` or to a comma before it.
     #[tactic(auto, using(crate::proofs::Lists::list_turns))]
     fn value_list(&mut self, room: usize) -> Result<Items<RawExpr>, Fault>
         requires { room < 999 }
@@ -170,6 +172,7 @@ impl<'a> Reader<'a> {
         self.called(room, RawTarget::Declare(constant, ty, spot))
     }
 
+    /// A declaration of local variables, or of one that takes the result of a call.
     #[tactic(auto, unfolding(crate::specs::ReadDecl::declaration))]
     pub fn declaration(&mut self, room: usize) -> Result<Items<RawStmt>, Fault>
         requires { room < 999 }

@@ -1,5 +1,6 @@
-//! Expressions (C11 6.5), by climbing over the levels of the operators. `room` is the greatest height that may be
-//! read, and so bounds the recursion.
+//! Expressions (C11 6.5), by climbing over the levels of the operators. `room` is the greatest height that may be read,
+//! and so bounds the recursion. It is at most 128 in `parse`; that it and the heights of parts are asked to be less
+//! than 1,000 keeps the heights that are computed far from an overflow.
 
 ghost use Rattle.std.specs.Prelude.{◌≡◌, ◌-◌, ◌+◌, ◌<◌, ◌≤◌, max, [], length, Ok, IfOk};
 ghost use Rattle.c_parse.specs.ReadExpr as spec;

@@ -2,7 +2,7 @@
 
 use std::alloc::AllocError;
 
-/// Why the reader stopped. The number is the count of tokens from the one where it stopped on.
+/// Why the reader stopped. The number is how many tokens were not taken.
 #[derive(Clone, Copy, Debug, PartialEq, Eq)]
 pub enum Fault {
     NoMemory,
@@ -28,7 +28,7 @@ pub enum ParseFault {
     Syntax { at: u32 },
     /// The tree would be too high. It is not answered yet.
     Depth { at: u32 },
-    /// Memory was wanting.
+    /// Memory was wanting. It may come in place of any other answer.
     NoMemory,
 }
 

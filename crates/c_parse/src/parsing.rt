@@ -17,7 +17,7 @@ use std::alloc::Global;
 /// The greatest height of a tree that is read.
 const MAX_HEIGHT: usize = 128;
 
-/// The place of the token from which on so many are left, or the end of the text.
+/// The place of the first of the last `left` tokens, or the end of the text where none is left.
 fn place(text: &[u8], tokens: &[Token], left: usize) -> u32
     requires { length text.now < 2 ^ 32 }
     ensures { IsPlace text.now tokens.now result }
@@ -28,7 +28,7 @@ fn place(text: &[u8], tokens: &[Token], left: usize) -> u32
     }
 }
 
-/// What is answered to the fault.
+/// The refusal that tells the fault.
 fn refusal(text: &[u8], tokens: &[Token], fault: Fault) -> ParseFault
     requires { length text.now < 2 ^ 32 }
     ensures place { IsRefusal text.now tokens.now result }
@@ -42,8 +42,11 @@ fn refusal(text: &[u8], tokens: &[Token], fault: Fault) -> ParseFault
     }
 }
 
-/// The tree that the tokens of the text spell (C11 6.5 to 6.9), if its height is at most 128. Every refusal but want of
-/// memory is `Syntax`, at the furthest token that was looked at, or at the end of the text.
+/// The tree that the tokens of the text spell (C11 6.5 to 6.9), if its height is at most 128. The text has fewer than
+/// 2^32 bytes, and each token lies within it.
+///
+/// Every refusal but want of memory is `Syntax`. Its place is the first byte of a token or the end of the text; no
+/// clause says which, it is that of the first token that was not taken. `NoMemory` may come in place of any answer.
 pub fn parse(alloc: Global, text: &[u8], tokens: &[Token]) -> Result<Unit, ParseFault>
     requires short { length text.now < 2 ^ 32 }
     requires within { All (IsWithin text.now) tokens.now }

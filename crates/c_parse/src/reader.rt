@@ -36,6 +36,7 @@ impl<'a> Model for Reader<'a> {
 }
 
 impl<'a> Reader<'a> {
+    /// A reader over the tokens, each of which lies within the text.
     pub fn new(alloc: Global, text: &'a [u8], rest: &'a [Token]) -> Self
         requires { All (IsWithin text.now) rest.now }
         ensures { result ≡ lexemes text.entry.now rest.entry.now }
@@ -247,6 +248,7 @@ impl<'a> Reader<'a> {
         true
     }
 
+    /// Whether the name of a type comes next.
     #[tactic(auto, unfolding(crate::specs::Parser::begins_type))]
     pub fn begins_type(&self) -> bool
         ensures { result ≡ spec.begins_type self.now }

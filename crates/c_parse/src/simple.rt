@@ -1,4 +1,6 @@
-//! Calls, assignments and jumps (C11 6.5.2.2, 6.5.16, 6.8.6). `room` is the greatest height of an expression.
+//! Calls, assignments and jumps (C11 6.5.2.2, 6.5.16, 6.8.6). `room` is the greatest height of an expression. It is at
+//! most 128 in `parse`; that it is asked to be less than 1,000 keeps the heights that are computed far from an
+//! overflow.
 
 ghost use Rattle.std.specs.Prelude.{◌≡◌, ◌<◌, [], ◌∷◌, length, Ok};
 ghost use Rattle.c_parse.specs.Parser.{another, phrases};
@@ -171,6 +173,7 @@ impl<'a> Reader<'a> {
         }
     }
 
+    /// An assignment, with its semicolon.
     #[tactic(auto, unfolding(crate::specs::ReadSimple::assign))]
     pub fn assign(&mut self, room: usize) -> Result<Items<RawStmt>, Fault>
         requires { room < 999 }
@@ -196,6 +199,7 @@ impl<'a> Reader<'a> {
         }
     }
 
+    /// The empty statement.
     #[tactic(auto, unfolding(crate::specs::ReadSimple::empty))]
     pub fn empty(&mut self) -> Result<Items<RawStmt>, Fault>
         ensures { Reads (λ x. x) (spec.empty self.old) result self.new }
@@ -204,6 +208,7 @@ impl<'a> Reader<'a> {
         only(self.alloc(), RawStmt::Empty)
     }
 
+    /// A `break`, with its semicolon.
     #[tactic(auto, unfolding(crate::specs::ReadSimple::broken))]
     pub fn broken(&mut self) -> Result<Items<RawStmt>, Fault>
         ensures { Reads (λ x. x) (spec.broken self.old) result self.new }
@@ -213,6 +218,7 @@ impl<'a> Reader<'a> {
         only(self.alloc(), RawStmt::Break(at))
     }
 
+    /// A `continue`, with its semicolon.
     #[tactic(auto, unfolding(crate::specs::ReadSimple::continued))]
     pub fn continued(&mut self) -> Result<Items<RawStmt>, Fault>
         ensures { Reads (λ x. x) (spec.continued self.old) result self.new }
@@ -235,6 +241,7 @@ impl<'a> Reader<'a> {
         Ok(Some(a.expr))
     }
 
+    /// A `return`, with its semicolon.
     #[tactic(auto, unfolding(crate::specs::ReadSimple::returned))]
     pub fn returned(&mut self, room: usize) -> Result<Items<RawStmt>, Fault>
         requires { room < 999 }

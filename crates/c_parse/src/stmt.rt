@@ -1,4 +1,5 @@
-//! Statements (C11 6.8). `room` is the greatest height that may be read, and so bounds the recursion.
+//! Statements (C11 6.8). `room` is the greatest height that may be read, and so bounds the recursion. It is at most 128
+//! in `parse`; that it is asked to be less than 1,000 keeps the heights that are computed far from an overflow.
 
 ghost use Rattle.std.specs.Prelude.{◌≡◌, ◌<◌, [], Some, Ok};
 ghost use Rattle.c_parse.specs.ReadStmt as spec;

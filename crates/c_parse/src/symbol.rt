@@ -122,7 +122,7 @@ pub fn bound_of(kind: Kind) -> u64
     }
 }
 
-/// How what stands before a token goes on with it: not at all, as the condition of a `?`, or as the left operand of a
+/// How an expression goes on with the next token: not at all, as the condition of a `?`, or as the left operand of a
 /// binary operator.
 #[derive(Clone, Copy, Debug, PartialEq, Eq)]
 pub enum Next {

@@ -1,5 +1,6 @@
-//! Declarations and functions at file scope, and whole texts (C11 6.9). `room` is the greatest height of an expression of
-//! a declaration, and of a statement of a function's list.
+//! Declarations and functions at file scope, and whole texts (C11 6.9). `room` is the greatest height of an expression
+//! of a declaration, and of a statement of a function's list. It is at most 128 in `parse`; that it is asked to be less
+//! than 1,000 keeps the heights that are computed far from an overflow.
 
 ghost use Rattle.std.specs.Prelude.{◌≡◌, ◌<◌, [], ◌∷◌, true, false, Some, None, Ok};
 ghost use Rattle.c_parse.specs.Parser.{another, phrases};

@@ -17,6 +17,7 @@ pub(crate) fn line_of(here: &[u8]) -> &[u8]
     }
 }
 
+/// Whether `/*` stands here.
 #[tactic(auto, unfolding(c_tree::specs::Lexing::opens_block_comment))]
 pub(crate) fn opens_block_comment(here: &[u8]) -> bool
     ensures value { result ≡ lexing.opens_block_comment here.now }
@@ -25,6 +26,7 @@ pub(crate) fn opens_block_comment(here: &[u8]) -> bool
     here.starts_with(b"/*")
 }
 
+/// Whether `//` stands here.
 #[tactic(auto, unfolding(c_tree::specs::Lexing::opens_line_comment))]
 pub(crate) fn opens_line_comment(here: &[u8]) -> bool
     ensures { result ≡ lexing.opens_line_comment here.now }

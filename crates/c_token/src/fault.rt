@@ -1,8 +1,8 @@
-//! Why a text is no tokens.
+//! Why a text cannot be split into tokens.
 
 use std::alloc::AllocFailed;
 
-/// Why a text is no tokens. Each place is the offset of a byte in the text.
+/// Why a text cannot be split into tokens. Each place is the offset of a byte in the text.
 #[derive(Clone, Copy, Debug, PartialEq, Eq)]
 pub enum TokenFault {
     /// No token begins there, nor anything that separates tokens.
@@ -13,7 +13,7 @@ pub enum TokenFault {
     Number { at: u32 },
     /// The line of the `#` there is none of the permitted ones.
     Directive { at: u32 },
-    /// Want of memory.
+    /// Memory was wanting. It may come in place of any other answer.
     NoMemory,
 }
 

@@ -5,7 +5,7 @@ ghost use Rattle.c_tree.specs.declared.token.Token.{Token};
 ghost use Rattle.c_tree.specs.Lexing.{Lexes};
 ghost use Rattle.c_tree.specs.Places.{AreInOrder, AreSeparated};
 
-/// A text is tokens in one way at most.
+/// A text has at most one list of tokens.
 #[tactic(auto, using(crate::proofs::Answering::lexed_once))]
 pub fn one_reading()
     ensures { (text : List ℕ) (ts us : List Token) → Lexes text ts → Lexes text us → ts ≡ us }

@@ -94,7 +94,8 @@ fn scan(alloc: Global, text: &[u8]) -> Result<Vec<Token>, TokenFault>
 
 /// The tokens of a text, in order: names, keywords, numbers, marks and loop bounds (C11 6.4). Each is the longest
 /// sequence of bytes that could constitute a token at its place. Blanks, comments and skipped lines of `#` separate
-/// them. A text that is no tokens is refused at the first place that cannot be read.
+/// them. A text that is no tokens is refused at the first place that cannot be read. The text has fewer than 2^32
+/// bytes. `NoMemory` may come in place of either answer.
 #[tactic(auto, using(crate::proofs::Laws::reached_in_order, crate::proofs::Laws::reached_separated))]
 pub fn tokens(alloc: Global, text: &[u8]) -> Result<Vec<Token>, TokenFault>
     requires { length text.now < 2 ^ 32 }
