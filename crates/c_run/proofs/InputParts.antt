@@ -118,11 +118,6 @@ numbers_at t [] h k = tt
 numbers_at t (z ∷ zs) h zero = h.0
 numbers_at t (z ∷ zs) h (suc k) = numbers_at t zs h.1 k
 
-pub map_step : (f : ℤ → Value) (xs : List ℤ) (i : ℕ) (x : ℤ) (v : Value) (list more whole : List Value) → slice_get xs i ≡ Some x → v ≡ f x → more ≡ list ++ v ∷ [] → list ++ map f (drop i xs) ≡ whole → more ++ map f (drop (i + 1) xs) ≡ whole
-map_step f xs i x v list more whole here is pushed so_far =
-    let rest = map f (drop (i + 1) xs) in
-    ap (λ more. more ++ rest) pushed ∙ append_assoc list (v ∷ []) rest ∙ ap (λ v. list ++ v ∷ rest) is ∙ ap (λ ys. list ++ map f ys) (sym (drop_is xs i x here)) ∙ so_far
-
 pub slots_step : (g : Global) (gs : List Global) (zs rest : List ℤ) (slot : Slot) (slots more whole : List Slot) → slot ≡ own_slot g zs → rest ≡ drop (own_width g) zs → more ≡ slots ++ slot ∷ [] → slots ++ global_slots (g ∷ gs) zs ≡ whole → more ++ global_slots gs rest ≡ whole
 slots_step g gs zs rest slot slots more whole is behind pushed so_far =
     ap (λ more. more ++ global_slots gs rest) pushed ∙ append_assoc slots (slot ∷ []) (global_slots gs rest) ∙ ap (λ s. slots ++ s ∷ global_slots gs rest) is ∙ ap (λ zs'. slots ++ own_slot g zs ∷ global_slots gs zs') behind ∙ ap (λ ss. slots ++ ss) (sym (first_slot g gs zs)) ∙ so_far

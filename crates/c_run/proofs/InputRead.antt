@@ -3,7 +3,7 @@ use Rattle.std.proofs.Common.{◌≡◌, ℕ, List, drop, Option, Some, None, Re
 use Rattle.c_tree.specs.declared.program.Program.{Program}
 use Rattle.c_tree.specs.declared.program.Input.{Input}
 use Rattle.c_tree.specs.Runs.{fits}
-use Rattle.c_run.specs.InputTexts.{input_leads, led, input_text, IsInputOf}
+use Rattle.c_run.specs.InputTexts.{input_leads, led, input_text, HasText, IsInputOf}
 use Rattle.c_run.specs.Reading.{Suits}
 use Rattle.c_run.proofs.InputLeads.{fitting_suits}
 use Rattle.c_run.proofs.InputSteps.{none_some, some_same, same_numbers}
@@ -22,13 +22,13 @@ nothing_read p text found told none i fit e = none_some found i.values none (tol
 -- what is told of an input that is checked
 abbrev Checks : Program → List ℕ → Input → Option Input → Type 0
 Checks p text input answer =
-    MatchOption answer (¬ (IsTrue (fits p input) × (input_text p input ≡ text))) (λ i. (i ≡ input) × (IsTrue (fits p input) × (input_text p input ≡ text)))
+    MatchOption answer (¬ (HasText p text input)) (λ i. (i ≡ input) × HasText p text input)
 
 answer_read : (p : Program) (text : List ℕ) (values : List ℤ) (found : Option (List ℤ)) (answer : Option Input) → Finds p text found → found ≡ Some values → Checks p text (record { values = values }) answer → IsInputOf p text answer
 answer_read p text values found None told is h = λ i fit e.
     let same : i.values ≡ values = some_same found i.values values (told i fit e) is in
-    h (subst (λ vs. IsTrue (fits p (record { values = vs })) × (input_text p (record { values = vs }) ≡ text)) same (fit, e))
-answer_read p text values found (Some i) told is h = subst (λ i. IsTrue (fits p i) × (input_text p i ≡ text)) (sym h.0) h.1
+    h (subst (λ vs. HasText p text (record { values = vs })) same (fit, e))
+answer_read p text values found (Some i) told is h = subst (HasText p text) (sym h.0) h.1
 
 pub checked_read : {E : Type 0} (p : Program) (bytes text : List ℕ) (values : List ℤ) (found : Option (List ℤ)) (r : Result (Option Input) E) → Finds p text found → found ≡ Some values → bytes ≡ text → IfOk r (Checks p bytes (record { values = values })) → IfOk r (IsInputOf p text)
 checked_read p bytes text values found (Ok answer) told is same h =

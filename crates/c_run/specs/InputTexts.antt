@@ -42,7 +42,11 @@ led (l ∷ ls) (z ∷ zs) = l ++ signed_decimal z ++ led ls zs
 abbrev pub input_text : Program → Input → List ℕ
 input_text p i = drop 1 (led (input_leads p) i.values)
 
+-- a fitting input, which has this text
+abbrev pub HasText : Program → List ℕ → Input → Type 0
+HasText p text i = IsTrue (fits p i) × (input_text p i ≡ text)
+
 -- a fitting input that has this text, if there is one
 abbrev pub IsInputOf : Program → List ℕ → Option Input → Type 0
 IsInputOf p text answer =
-    MatchOption answer ((i : Input) → IsTrue (fits p i) → input_text p i ≢ text) (λ i. IsTrue (fits p i) × (input_text p i ≡ text))
+    MatchOption answer ((i : Input) → IsTrue (fits p i) → input_text p i ≢ text) (HasText p text)

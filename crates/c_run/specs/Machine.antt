@@ -1,5 +1,5 @@
 -- What is left of a run: what the task at work and the statements that wait for it come to.
-use Rattle.std.specs.Prelude.{◌≡◌, ℕ, zero, suc, ◌+◌, ◌%◌, ◌^◌, Bool, true, false, if◌then◌else◌, List, [], ◌∷◌, ◌++◌, take, drop, length, Option, Some, None, ℤ}
+use Rattle.std.specs.Prelude.{◌≡◌, ℕ, zero, suc, ◌+◌, ◌%◌, ◌^◌, Bool, true, false, if◌then◌else◌, List, [], ◌∷◌, ◌++◌, take, drop, length, slice_get, Option, Some, None, ℤ}
 use Rattle.std.specs.Option.{option_copied}
 use Rattle.c_tree.specs.declared.tree.Stmt.{Stmt}
 use Rattle.c_tree.specs.declared.program.Func.{Func}
@@ -11,11 +11,15 @@ use Rattle.c_tree.specs.declared.value.Value.{Value}
 use Rattle.c_tree.specs.declared.value.Slot.{Slot}
 use Rattle.c_tree.specs.declared.value.Slot.TheVariants.{Number}
 use Rattle.c_tree.specs.declared.tree.Ty.{Ty}
+use Rattle.c_tree.specs.declared.tree.Expr.{Expr}
+use Rattle.c_tree.specs.declared.tree.Target.{Target}
 use Rattle.c_tree.specs.declared.program.Local.{Local}
 use Rattle.c_tree.specs.Values.{convert, is_true}
-use Rattle.c_tree.specs.Expressions.{val}
-use Rattle.c_tree.specs.Statements.{Callee, Outcome, Ends, Undefined, OverBound, with_value, after, then_do, turn_do, block, while_turns, do_turns, come_back, exec, list_exec, held}
-use Rattle.c_tree.specs.Runs.{param_types, arguments, entry_slots, global_slots, fresh, result_of, back, callees}
+use Rattle.c_tree.specs.Expressions.{val, all_values}
+use Rattle.c_tree.specs.Blocks.{list_blocks}
+use Rattle.c_tree.specs.Statements as statements
+use Rattle.c_tree.specs.Statements.{Callee, Outcome, Ends, Undefined, OverBound, with_value, after, then_do, turn_do, block, while_turns, do_turns, come_back, unset_target, call, simple, stored, exec, list_exec, held}
+use Rattle.c_tree.specs.Runs.{param_types, arguments, entry_slots, global_slots, fresh, result_of, back, callee, callees}
 use Rattle.c_tree.specs.Claims.{cost}
 use Rattle.c_run.specs.declared.run_end.RunEnd.{RunEnd}
 use Rattle.c_run.specs.declared.run_end.RunEnd.TheVariants as end
@@ -146,6 +150,53 @@ ends_as g m o = state g.costs.now g.program.now.funcs m.cost m.pending.items o
 abbrev pub functions : Given → Machine → List Callee
 functions g m = over g.program.now.funcs m.func
 
+-- the same, with this task at work
+abbrev pub remains : Given → Machine → Task → RunEnd
+remains g m t = ends_as g m (doing g.program.now.funcs m.func t m.memory)
+
+-- the machine `later` with this task comes to the end that `m` comes to if what is at work in it comes to o
+abbrev pub ComesTo : Given → Machine → Machine → Task → Outcome → Type 0
+ComesTo g m later t o = remains g later t ≡ ends_as g m o
+
+-- ---- what is at work in the machine's function and store
+
+-- a simple statement
+abbrev pub simple_from : Machine → Stmt → ℕ → Bool → Outcome
+simple_from m st n run = after (statements.entered m.func n run) (stored (simple st m.memory))
+
+-- a list whose first block is n
+abbrev pub list_from : Given → Machine → List Stmt → ℕ → Outcome
+list_from g m xs n = list_exec (functions g m) m.func xs n false m.memory
+
+-- the list of an `if` that its condition e, the block n, chooses
+abbrev pub chosen_list : Given → Machine → Expr → List Stmt → List Stmt → ℕ → Outcome
+chosen_list g m e xs ys n =
+    after (block m.func n ∷ [])
+    (with_value (val e m.memory) (λ v. if is_true v then list_from g m xs (n + 1) else list_from g m ys (n + 1 + list_blocks xs false)))
+
+-- the body of a loop, if it may be entered once more, and what follows it
+abbrev pub entering_loop : Given → Machine → Loop → Outcome
+entering_loop g m l = entering (functions g m) m.func l l.left m.memory
+
+-- the initialiser of a `for`, and then its turns
+abbrev pub begun_for : Given → Machine → List Stmt → ℕ → Loop → Outcome
+begun_for g m xs n l = then_do (list_from g m xs n) (turns (functions g m) m.func l)
+
+-- a call of the function f with these arguments, whose block is n
+abbrev pub calling : Given → Machine → Target → ℕ → List Expr → ℕ → Outcome
+calling g m target f es n =
+    after (block m.func n ∷ []) (call (slice_get (functions g m) f) target (all_values es (unset_target target m.memory)) (unset_target target m.memory))
+
+-- what a call of the function h, number f, with these values comes to
+abbrev pub called : Given → Machine → Target → ℕ → Func → List Value → Outcome
+called g m target f h vs = come_back target m.memory (callee f h (over g.program.now.funcs f) vs m.memory.globals)
+
+-- what one that waited makes of an end in this way
+abbrev pub resumed : Given → Machine → Pending → Way → Outcome
+resumed g m p w = behind g.program.now.funcs p (Ends [] m.memory w)
+
+-- ---- steps
+
 -- one more waits, and all else is the same
 pub record Waits (before after : Machine) (p : Pending) : Type 0 where
   pub func : after.func ≡ before.func
@@ -162,10 +213,6 @@ is_work (task.Again l) = true
 is_work (task.Ended w) = false
 is_work task.Undefined = false
 is_work task.OverBound = false
-
--- with a task at work
-abbrev pub remains : Given → Machine → Task → RunEnd
-remains g m t = ends_as g m (doing g.program.now.funcs m.func t m.memory)
 
 -- the run of the entry function on these arguments and globals, with the cost modulo 2^128
 abbrev pub entered : Given → Func → List Value → List Slot → RunEnd

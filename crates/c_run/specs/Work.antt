@@ -98,3 +98,21 @@ efforts g m = works_over g.program.now.funcs m.func
 
 abbrev pub left : Given → Machine → Task → ℕ
 left g m t = task_work g.program.now.funcs m.func t + waiting g m
+
+-- ---- what parts of a step take
+
+-- one that waits
+abbrev pub work_behind : Given → Pending → ℕ
+work_behind g p = pending_work g.program.now.funcs p
+
+-- the lists of an `if`
+abbrev pub choice_work : Given → Machine → List Stmt → List Stmt → ℕ
+choice_work g m xs ys = 1 + list_work (efforts g m) xs + list_work (efforts g m) ys
+
+-- a `for` with this initialiser
+abbrev pub begun_work : Given → Machine → List Stmt → Loop → ℕ
+begun_work g m xs l = 2 + list_work (efforts g m) xs + turn_work (efforts g m) l l.left
+
+-- a call of the function h, number f
+abbrev pub callee_work : Given → ℕ → Func → ℕ
+callee_work g f h = 2 + list_work (works_over g.program.now.funcs f) h.body

@@ -1,15 +1,12 @@
 //! Calls (C11 6.5.2.2, 6.9.1), and what goes on behind the end of what was waited for.
 
-ghost use Rattle.std.specs.Prelude.{◌≡◌, ◌<◌, ◌+◌, ◌%◌, ◌^◌, false, if◌then◌else◌, None, [], ◌∷◌, ◌++◌, option_map, option_copied, slice_get, take, IfOk, OnOk};
-ghost use Rattle.c_tree.specs.Values.{is_true};
-ghost use Rattle.c_tree.specs.Expressions.{val, all_values};
-ghost use Rattle.c_tree.specs.Blocks.{list_blocks};
-ghost use Rattle.c_tree.specs.Statements.{Back, Callee, Ends, unset_target, give, come_back, call, with_value, after, then_do, entered, stored, simple, return_value, block, list_exec, held};
+ghost use Rattle.std.specs.Prelude.{◌≡◌, ◌<◌, ◌+◌, option_copied, slice_get, take, IfOk};
+ghost use Rattle.c_tree.specs.Statements.{unset_target, give};
 ghost use Rattle.c_tree.specs.Runs as runs;
 ghost use Rattle.c_run.specs.Machine as machine;
 ghost use Rattle.c_run.specs.declared.machine.Given.{Given};
-ghost use Rattle.c_run.specs.Machine.{behind, over, functions, remains, ends_as};
-ghost use Rattle.c_run.specs.Work.{list_work, works_over, work_at, pending_work, efforts, waiting, left};
+ghost use Rattle.c_run.specs.Machine.{remains, ends_as, ComesTo, calling, called, resumed};
+ghost use Rattle.c_run.specs.Work.{work_at, efforts, waiting, left, callee_work, work_behind};
 
 use crate::machine::{Given, Machine, Pending, Task, with_block};
 use crate::memory::Memory;
@@ -28,7 +25,7 @@ impl<'a> Machine<'a> {
         arguments: &[Expr],
         at: usize,
     ) -> Result<Task<'a>, NoMemory>
-        ensures same { IfOk result (λ t. remains given.entry self.new t ≡ ends_as given.entry self.old (after (block self.old.func at ∷ []) (call (slice_get (functions given.entry self.old) func) target (all_values arguments.now (unset_target target self.old.memory)) (unset_target target self.old.memory)))) }
+        ensures same { IfOk result (λ t. ComesTo given.entry self.old self.new t (calling given.entry self.old target func arguments.now at)) }
         ensures less { IfOk result (λ t. left given.entry self.new t < 2 + work_at (efforts given.entry self.old) func + waiting given.entry self.old) }
     {
         self.cost = with_block(self.cost, given.costs, self.func, at);
@@ -42,7 +39,7 @@ impl<'a> Machine<'a> {
         self.enter(given, callee, func, target, values.as_slice())
     }
 
-    /// Enters a function.
+    // Enters a function.
     fn enter(
         &mut self,
         given: Given<'a>,
@@ -51,8 +48,8 @@ impl<'a> Machine<'a> {
         target: Target,
         values: &[Value],
     ) -> Result<Task<'a>, NoMemory>
-        ensures same { IfOk result (λ t. remains given.entry self.new t ≡ ends_as given.entry self.old (come_back target self.old.memory (runs.callee func callee.now (over given.entry.program.now.funcs func) values.now self.old.memory.globals))) }
-        ensures less { IfOk result (λ t. left given.entry self.new t < 2 + list_work (works_over given.entry.program.now.funcs func) callee.now.body + waiting given.entry self.old) }
+        ensures same { IfOk result (λ t. ComesTo given.entry self.old self.new t (called given.entry self.old target func callee.now values.now)) }
+        ensures less { IfOk result (λ t. left given.entry self.new t < callee_work given.entry func callee.now + waiting given.entry self.old) }
     {
         let locals = entry_slots(given.alloc, callee.locals.as_slice(), values)?;
         let locals = self.memory.replace_locals(locals);
@@ -77,8 +74,8 @@ impl<'a> Machine<'a> {
         pending: Pending<'a>,
         way: Way,
     ) -> Result<Task<'a>, NoMemory>
-        ensures same { IfOk result (λ t. remains given.entry self.new t ≡ ends_as given.entry self.old (behind given.entry.program.now.funcs pending.entry (Ends [] self.old.memory way))) }
-        ensures less { IfOk result (λ t. left given.entry self.new t < pending_work given.entry.program.now.funcs pending.entry + waiting given.entry self.old) }
+        ensures same { IfOk result (λ t. ComesTo given.entry self.old self.new t (resumed given.entry self.old pending.entry way)) }
+        ensures less { IfOk result (λ t. left given.entry self.new t < work_behind given.entry pending.entry + waiting given.entry self.old) }
     {
         match pending {
             Pending::Rest {
@@ -115,7 +112,7 @@ impl<'a> Machine<'a> {
         }
     }
 
-    /// Puts a call's result where it goes.
+    // Puts a call's result where it goes.
     fn take_result(&mut self, target: Target, value: Option<Value>) -> Task<'a>
         ensures same { (g : Given) → remains g self.new result ≡ ends_as g self.old (give target value self.old.memory) }
         ensures less { (g : Given) → left g self.new result < 1 + waiting g self.old }
@@ -127,7 +124,7 @@ impl<'a> Machine<'a> {
         }
     }
 
-    /// Assigns a call's result, which is undefined where there is none.
+    // Assigns a call's result, which is undefined where there is none.
     fn assign(&mut self, var: Var, value: Option<Value>) -> Task<'a>
         ensures same { (g : Given) → remains g self.new result ≡ ends_as g self.old (give (Target.Assign var) value self.old.memory) }
         ensures less { (g : Given) → left g self.new result < 1 + waiting g self.old }
@@ -142,7 +139,7 @@ impl<'a> Machine<'a> {
     }
 }
 
-/// A call that initialises a local makes it unset before its arguments are evaluated.
+// A call that initialises a local makes it unset before its arguments are evaluated.
 fn unset(target: Target, memory: &mut Memory)
     ensures { memory.new ≡ unset_target target memory.old }
 {
@@ -153,7 +150,7 @@ fn unset(target: Target, memory: &mut Memory)
     }
 }
 
-/// A function that stands above the function `below`.
+// A function that stands above the function `below`.
 fn function_above(program: &Program, func: u32, below: u32) -> Option<&Func>
     ensures { option_copied result ≡ slice_get (take below program.now.funcs) func }
 {
@@ -164,7 +161,7 @@ fn function_above(program: &Program, func: u32, below: u32) -> Option<&Func>
     }
 }
 
-/// The task, or the end itself where a statement did not end with what comes next.
+// The task, or the end itself where a statement did not end with what comes next.
 fn onward<'a>(way: Way, task: Task<'a>) -> Task<'a>
     ensures { result ≡ machine.onward way task.entry }
 {
@@ -174,7 +171,7 @@ fn onward<'a>(way: Way, task: Task<'a>) -> Task<'a>
     }
 }
 
-/// What a function of this result comes back with whose list ended in this way.
+// What a function of this result comes back with whose list ended in this way.
 fn returned(ty: Option<Ty>, way: Way) -> Option<Value>
     ensures { result ≡ machine.returned ty way }
 {
@@ -184,7 +181,7 @@ fn returned(ty: Option<Ty>, way: Way) -> Option<Value>
     Some(convert(ty?, value?))
 }
 
-/// A local that is no parameter, as a call begins.
+// A local that is no parameter, as a call begins.
 fn fresh(alloc: Global, ty: Ty, length: Option<u32>) -> Result<Slot, NoMemory>
     ensures { IfOk result (λ x. x ≡ runs.fresh ty length) }
 {
@@ -194,7 +191,7 @@ fn fresh(alloc: Global, ty: Ty, length: Option<u32>) -> Result<Slot, NoMemory>
     }
 }
 
-/// The slot of a local as a call begins, of a parameter with its argument.
+// The slot of a local as a call begins, of a parameter with its argument.
 fn entry_slot(alloc: Global, local: &Local, value: Option<&Value>) -> Result<Slot, NoMemory>
     ensures { IfOk result (λ x. x ≡ machine.entry_slot local.now (option_copied value.entry)) }
 {

@@ -20,7 +20,7 @@ pub fn fits(program: &Program, input: &Input) -> bool
     }
 }
 
-/// Whether these numbers are those of the `extern` variables.
+// Whether these numbers are those of the `extern` variables.
 fn fit_globals(globals: &[Outside], numbers: &[i64]) -> bool
     ensures { result ≡ spec.are_of (spec.outer_types globals.now) numbers.now }
 {
@@ -34,7 +34,7 @@ fn fit_globals(globals: &[Outside], numbers: &[i64]) -> bool
     rest.is_empty()
 }
 
-/// The numbers behind those of a global, or None where the first ones do not fit it.
+// The numbers behind those of a global, or None where the first ones do not fit it.
 fn behind_global<'a>(global: &Outside, numbers: &'a [i64]) -> Option<&'a [i64]>
     ensures { option_copied result ≡ rest_of (own_types global.now) numbers.now }
 {
@@ -45,7 +45,7 @@ fn behind_global<'a>(global: &Outside, numbers: &'a [i64]) -> Option<&'a [i64]>
     }
 }
 
-/// The numbers behind those of the entry function's parameters.
+// The numbers behind those of the entry function's parameters.
 fn behind_entry<'a>(entry: Option<&Func>, numbers: &'a [i64]) -> Option<&'a [i64]>
     ensures { option_copied result ≡ rest_of (spec.entry_types (option_copied entry.entry)) numbers.now }
 {
@@ -55,7 +55,7 @@ fn behind_entry<'a>(entry: Option<&Func>, numbers: &'a [i64]) -> Option<&'a [i64
     }
 }
 
-/// The numbers behind those of a function's parameters.
+// The numbers behind those of a function's parameters.
 fn behind_params<'a>(params: u32, locals: &[Local], numbers: &'a [i64]) -> Option<&'a [i64]>
     ensures { option_copied result ≡ rest_of (spec.param_types params locals.now) numbers.now }
 {
@@ -74,7 +74,7 @@ fn behind_params<'a>(params: u32, locals: &[Local], numbers: &'a [i64]) -> Optio
     Some(rest)
 }
 
-/// The numbers behind so many of a type, or None where the first ones are not of it.
+// The numbers behind so many of a type, or None where the first ones are not of it.
 fn behind<'a>(ty: Ty, count: usize, numbers: &'a [i64]) -> Option<&'a [i64]>
     ensures { option_copied result ≡ rest_of (replicate count ty) numbers.now }
 {
@@ -88,7 +88,7 @@ fn behind<'a>(ty: Ty, count: usize, numbers: &'a [i64]) -> Option<&'a [i64]>
     Some(rest)
 }
 
-/// The numbers behind the first, or None where it is not of this type.
+// The numbers behind the first, or None where it is not of this type.
 fn next<'a>(ty: Ty, numbers: &'a [i64]) -> Option<&'a [i64]>
     ensures { option_copied result ≡ rest_of (ty ∷ []) numbers.now }
 {
@@ -96,7 +96,7 @@ fn next<'a>(ty: Ty, numbers: &'a [i64]) -> Option<&'a [i64]>
     if is_of(ty, z) { Some(more) } else { None }
 }
 
-/// Whether a number lies in the range of a type.
+// Whether a number lies in the range of a type.
 fn is_of(ty: Ty, z: &i64) -> bool
     ensures { result ≡ values.is_of ty z.now }
 {

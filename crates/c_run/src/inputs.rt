@@ -11,7 +11,7 @@ use c_tree::{Func, Global as Outside, NoMemory, Slot, Ty, Value};
 use sqlite_items::{Items, at};
 use std::alloc::Global;
 
-/// A number of a type's range, as a value of it.
+// A number of a type's range, as a value of it.
 fn of_number(ty: Ty, z: &i64) -> Value
     requires { IsTrue (values.is_of ty z.now) }
     ensures { result ≡ values.of_int ty z.now }
@@ -56,22 +56,19 @@ pub(crate) fn arguments(
     Ok(list)
 }
 
-/// The numbers as values of a type.
+// The numbers as values of a type.
 fn values_of(alloc: Global, ty: Ty, from: &[i64]) -> Result<Items<Value>, NoMemory>
     requires { (k : ℕ) → NumberAt (Some ty) (slice_get from.now k) }
     ensures { IfOk result (λ vs. vs ≡ map (values.of_int ty) from.now) }
 {
     let mut list = Items::new(alloc);
-    for i in 0..from.len() {
-        let Some(z) = at(from, i) else {
-            return Err(NoMemory);
-        };
+    for z in from {
         list.push(of_number(ty, z))?;
     }
     Ok(list)
 }
 
-/// A global with these numbers, and 0 where there are none.
+// A global with these numbers, and 0 where there are none.
 fn global_slot(
     alloc: Global,
     ty: Ty,
@@ -97,7 +94,7 @@ fn global_slot(
     }
 }
 
-/// The slot of a global: of an `extern` one with the numbers that come first, behind which the rest begins.
+// The slot of a global: of an `extern` one with the numbers that come first, behind which the rest begins.
 fn next_slot<'a>(
     alloc: Global,
     global: &Outside,
@@ -147,6 +144,7 @@ pub(crate) fn global_slots(
     Ok(slots)
 }
 
+// Pushes a slot.
 fn push(slots: &mut Vec<Slot>, slot: Slot) -> Result<(), NoMemory>
     ensures { OnOk result (slots.new.items ≡ slots.old.items ++ slot ∷ []) }
 {

@@ -20,6 +20,7 @@ pub(crate) fn input_leads(alloc: Global, program: &Program) -> Result<Items<Item
     Ok(leads)
 }
 
+// Pushes what stands before the numbers of the entry function's parameters, if there is such a function.
 fn push_entry(
     alloc: Global,
     leads: &mut Items<Items<u8>>,
@@ -33,6 +34,7 @@ fn push_entry(
     }
 }
 
+// Pushes what stands before the numbers of a function's parameters.
 fn push_params(
     alloc: Global,
     leads: &mut Items<Items<u8>>,
@@ -52,6 +54,7 @@ fn push_params(
     Ok(())
 }
 
+// Pushes what stands before the numbers of the `extern` variables.
 fn push_globals(
     alloc: Global,
     leads: &mut Items<Items<u8>>,
@@ -65,6 +68,7 @@ fn push_globals(
     Ok(())
 }
 
+// Pushes what stands before the numbers of a global, which has none unless it is `extern`.
 fn push_global(
     alloc: Global,
     leads: &mut Items<Items<u8>>,
@@ -79,7 +83,7 @@ fn push_global(
     }
 }
 
-/// Of an input variable with so many numbers.
+// Pushes what stands before each number of an input variable.
 fn push_leads(
     alloc: Global,
     leads: &mut Items<Items<u8>>,
@@ -95,6 +99,7 @@ fn push_leads(
     push_commas(alloc, leads, count - 1)
 }
 
+// A blank, the name and `=`.
 fn first_lead(alloc: Global, name: &Name) -> Result<Items<u8>, NoMemory>
     ensures { IfOk result (λ l. l ≡ codes " " ++ name.now ++ codes "=") }
 {
@@ -104,6 +109,7 @@ fn first_lead(alloc: Global, name: &Name) -> Result<Items<u8>, NoMemory>
     Ok(Items::from_vec(lead))
 }
 
+// Pushes so many commas.
 fn push_commas(alloc: Global, leads: &mut Items<Items<u8>>, count: usize) -> Result<(), NoMemory>
     ensures { OnOk result (leads.new ≡ leads.old ++ replicate count (codes ",")) }
 {

@@ -1,14 +1,12 @@
 //! Loops (C11 6.8.5).
 
-ghost use Rattle.std.specs.Prelude.{◌≡◌, ◌<◌, ◌+◌, ◌%◌, ◌^◌, false, if◌then◌else◌, None, [], ◌∷◌, ◌++◌, option_map, option_copied, slice_get, take, IfOk, OnOk};
-ghost use Rattle.c_tree.specs.Values.{is_true};
-ghost use Rattle.c_tree.specs.Expressions.{val, all_values};
+ghost use Rattle.std.specs.Prelude.{◌≡◌, ◌<◌, ◌+◌, false, None, option_copied, IfOk};
 ghost use Rattle.c_tree.specs.Blocks.{list_blocks};
-ghost use Rattle.c_tree.specs.Statements.{Ends, with_value, after, then_do, entered, stored, simple, return_value, block, list_exec, held};
+ghost use Rattle.c_tree.specs.Statements.{held};
 ghost use Rattle.c_run.specs.declared.machine.Given.{Given};
 ghost use Rattle.c_run.specs.Machine as loops;
-ghost use Rattle.c_run.specs.Machine.{behind, functions, entering, turns, remains, ends_as};
-ghost use Rattle.c_run.specs.Work.{list_work, pending_work, turn_work, efforts, waiting, left};
+ghost use Rattle.c_run.specs.Machine.{turns, remains, ComesTo, entering_loop, begun_for, resumed};
+ghost use Rattle.c_run.specs.Work.{waiting, left, begun_work, work_behind};
 
 use crate::blocks::{self, held_blocks, plus};
 use crate::machine::{DoLoop, Given, Loop, Machine, Pending, Task, condition, with_block};
@@ -29,9 +27,9 @@ impl<'a> Machine<'a> {
         }
     }
 
-    /// Enters the body of a loop once more, if its bound allows it.
+    // Enters the body of a loop once more, if its bound allows it.
     fn enter_body(&mut self, turns: Loop<'a>) -> Result<Task<'a>, NoMemory>
-        ensures same { (g : Given) → IfOk result (λ t. remains g self.new t ≡ ends_as g self.old (entering (functions g self.old) self.old.func turns.entry turns.entry.left self.old.memory)) }
+        ensures same { (g : Given) → IfOk result (λ t. ComesTo g self.old self.new t (entering_loop g self.old turns.entry)) }
         ensures less { (g : Given) → IfOk result (λ t. left g self.new t < left g self.old (Task.Turn turns.entry)) }
     {
         if turns.left == 0 {
@@ -76,8 +74,8 @@ impl<'a> Machine<'a> {
         ahead: Loop<'a>,
         at: usize,
     ) -> Result<Task<'a>, NoMemory>
-        ensures same { (g : Given) → IfOk result (λ t. remains g self.new t ≡ ends_as g self.old (then_do (list_exec (functions g self.old) self.old.func (held initial.now) at false self.old.memory) (turns (functions g self.old) self.old.func ahead.entry))) }
-        ensures less { (g : Given) → IfOk result (λ t. left g self.new t < 2 + list_work (efforts g self.old) (held initial.now) + turn_work (efforts g self.old) ahead.entry ahead.entry.left + waiting g self.old) }
+        ensures same { (g : Given) → IfOk result (λ t. ComesTo g self.old self.new t (begun_for g self.old (held initial.now) at ahead.entry)) }
+        ensures less { (g : Given) → IfOk result (λ t. left g self.new t < begun_work g self.old (held initial.now) ahead.entry + waiting g self.old) }
     {
         match initial {
             None => Ok(Task::Turn(ahead)),
@@ -97,8 +95,8 @@ impl<'a> Machine<'a> {
 
     /// What follows the body of a `while` or a `for` that ended in this way.
     pub(crate) fn step(&mut self, turns: Loop<'a>, way: Way) -> Result<Task<'a>, NoMemory>
-        ensures same { (g : Given) → IfOk result (λ t. remains g self.new t ≡ ends_as g self.old (behind g.program.now.funcs (Pending.Step self.old.func turns.entry) (Ends [] self.old.memory way))) }
-        ensures less { (g : Given) → IfOk result (λ t. left g self.new t < pending_work g.program.now.funcs (Pending.Step self.old.func turns.entry) + waiting g self.old) }
+        ensures same { (g : Given) → IfOk result (λ t. ComesTo g self.old self.new t (resumed g self.old (Pending.Step self.old.func turns.entry) way)) }
+        ensures less { (g : Given) → IfOk result (λ t. left g self.new t < work_behind g (Pending.Step self.old.func turns.entry) + waiting g self.old) }
     {
         if !goes_on(way) {
             return Ok(Task::Ended(past(way)));
@@ -121,8 +119,8 @@ impl<'a> Machine<'a> {
 
     /// What follows the body of a `do` that ended in this way.
     pub(crate) fn do_test(&mut self, given: Given<'a>, turns: DoLoop<'a>, way: Way) -> Task<'a>
-        ensures same { remains given.entry self.new result ≡ ends_as given.entry self.old (behind given.entry.program.now.funcs (Pending.DoTest self.old.func turns.entry) (Ends [] self.old.memory way)) }
-        ensures less { left given.entry self.new result < pending_work given.entry.program.now.funcs (Pending.DoTest self.old.func turns.entry) + waiting given.entry self.old }
+        ensures same { ComesTo given.entry self.old self.new result (resumed given.entry self.old (Pending.DoTest self.old.func turns.entry) way) }
+        ensures less { left given.entry self.new result < work_behind given.entry (Pending.DoTest self.old.func turns.entry) + waiting given.entry self.old }
     {
         if !goes_on(way) {
             return Task::Ended(past(way));
@@ -136,7 +134,7 @@ impl<'a> Machine<'a> {
     }
 }
 
-/// Whether a body that ended in this way is followed by another turn.
+// Whether a body that ended in this way is followed by another turn.
 fn goes_on(way: Way) -> bool
     ensures { result ≡ loops.goes_on way }
 {
@@ -148,7 +146,7 @@ fn goes_on(way: Way) -> bool
     }
 }
 
-/// The way in which a loop ends whose body ended in this way.
+// The way in which a loop ends whose body ended in this way.
 fn past(way: Way) -> Way
     ensures { result ≡ loops.past way }
 {
@@ -221,6 +219,7 @@ pub(crate) fn for_loop<'a>(
     })
 }
 
+// The statement that stands there, if there is one.
 fn inner(stmt: &Option<Boxed<Stmt>>) -> Option<&Stmt>
     ensures { option_copied result ≡ stmt.now }
 {

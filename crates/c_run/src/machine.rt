@@ -1,5 +1,5 @@
 //! Runs of statements (C11 6.8). What is left to do of the statements around the one at work stands in a list on the
-//! heap, so a run needs no more stack where calls and statements lie deeper in one another.
+//! heap, so nested calls and statements take no more stack.
 
 ghost use Rattle.std.specs.Prelude.{◌≡◌, ◌<◌, ◌+◌, ◌%◌, ◌^◌, true, [], option_map, IfOk, OnOk};
 ghost use Rattle.c_tree.specs.Values.{is_true};
@@ -161,14 +161,14 @@ impl<'a> Machine<'a> {
         }
     }
 
-    /// The cost so far.
+    // The cost so far.
     fn total(&self) -> u128
         ensures { result ≡ self.now.cost }
     {
         self.cost
     }
 
-    /// The task that comes next where this one is no end.
+    // The task that comes next where this one is no end.
     fn work(&mut self, given: Given<'a>, task: Task<'a>) -> Result<Task<'a>, NoMemory>
         requires { is_work task ≡ true }
         ensures same { IfOk result (λ t. remains given.entry self.new t ≡ remains given.entry self.old task.entry) }
@@ -176,12 +176,11 @@ impl<'a> Machine<'a> {
     {
         match task {
             Task::List { stmts, at, run } => self.list(stmts, at, run),
-            Task::One { stmt, at, run } => self.one(given, stmt, at, run),
+            Task::One { stmt, at, run } => self.statement(given, stmt, at, run),
             Task::Turn(turns) => self.turn(given, turns),
             Task::Again(turns) => self.again(turns),
-            Task::Ended(_) => Err(NoMemory),
-            Task::Undefined => Err(NoMemory),
-            Task::OverBound => Err(NoMemory),
+            // No end comes here.
+            Task::Ended(_) | Task::Undefined | Task::OverBound => Ok(task),
         }
     }
 

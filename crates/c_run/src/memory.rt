@@ -24,6 +24,7 @@ impl Model for Memory {
     ghost view = { λ m. record { locals = m.locals.items; globals = m.globals.items } };
 }
 
+/// The type of a slot, which is `int` where there is none.
 pub(crate) fn slot_ty(slot: Option<&Slot>) -> Ty
     ensures { result ≡ spec.slot_ty (option_copied slot.entry) }
 {
@@ -36,6 +37,7 @@ pub(crate) fn slot_ty(slot: Option<&Slot>) -> Ty
 }
 
 impl Memory {
+    /// A store of these locals and globals.
     pub(crate) fn new(locals: Vec<Slot>, globals: Vec<Slot>) -> Memory
         ensures { result ≡ record { locals = locals.items; globals = globals.items } }
     {
@@ -60,7 +62,7 @@ impl Memory {
         mem::replace(&mut self.locals, locals)
     }
 
-    /// Puts a slot in a variable's place, if it has one.
+    // Puts a slot in a variable's place, if it has one.
     fn put(&mut self, var: Var, slot: Slot)
         ensures { self.new ≡ spec.with_slot self.old var slot }
     {
@@ -104,6 +106,7 @@ impl Memory {
     }
 }
 
+// Puts a slot in the place of the slot number `n`, if there is one.
 fn set(slots: &mut Vec<Slot>, n: u32, slot: Slot)
     ensures { slots.new.items ≡ slice_set slots.old.items n slot }
 {
@@ -113,7 +116,7 @@ fn set(slots: &mut Vec<Slot>, n: u32, slot: Slot)
     }
 }
 
-/// Sets an element of the array that is the slot number `n`, if it is one.
+// Sets an element of the array that is the slot number `n`, if it is one.
 fn set_element(slots: &mut Vec<Slot>, n: u32, at: u32, v: Value) -> bool
     ensures { changed_list result slots.new.items ≡ with_element slots.old.items n (slice_get slots.old.items n) at v }
 {

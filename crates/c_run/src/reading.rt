@@ -1,12 +1,12 @@
 //! Reading the text of an input (this project's own).
 
-ghost use Rattle.std.specs.Prelude.{◌≡◌, ◌≤◌, ◌++◌, ℕ, ℤ, List, [], ◌∷◌, Some, IsTrue, IfOk, MatchOption, drop, length};
+ghost use Rattle.std.specs.Prelude.{◌≡◌, ◌≤◌, ℤ, List, Some, IfOk, MatchOption, drop, length};
 ghost use Rattle.std.specs.List.{prefix_len};
 ghost use Rattle.std.specs.Fmt.{signed_decimal};
-ghost use Rattle.c_tree.specs.Runs as runs;
 ghost use Rattle.c_run.specs.InputTexts as spec;
+ghost use Rattle.c_run.specs.InputTexts.{HasText};
 ghost use Rattle.c_run.specs.Reading as words;
-ghost use Rattle.c_run.specs.Reading.{IsSmall, IsApart, Suits};
+ghost use Rattle.c_run.specs.Reading.{IsSmall, NumberBehind, Suits};
 
 use crate::fitting::fits;
 use crate::leads::input_leads;
@@ -27,14 +27,14 @@ pub fn read_input(alloc: Global, program: &Program, text: &str) -> Result<Option
     }
 }
 
-/// The input, if it fits and has this text.
+// The input, if it fits and has this text.
 fn checked(
     alloc: Global,
     program: &Program,
     text: &[u8],
     input: Input,
 ) -> Result<Option<Input>, NoMemory>
-    ensures { IfOk result (λ o. MatchOption o (¬ (IsTrue (runs.fits program.now input) × (spec.input_text program.now input ≡ text.now))) (λ i. (i ≡ input) × (IsTrue (runs.fits program.now input) × (spec.input_text program.now input ≡ text.now)))) }
+    ensures { IfOk result (λ o. MatchOption o (¬ (HasText program.now text.now input)) (λ i. (i ≡ input) × HasText program.now text.now input)) }
 {
     if !fits(program, &input) {
         return Ok(None);
@@ -47,8 +47,8 @@ fn checked(
     }
 }
 
-/// The numbers that stand behind what should stand before each, whatever stands there; None where there is no such
-/// number.
+// The numbers that stand behind what should stand before each, whatever stands there; None where there is no such
+// number.
 fn numbers_in(
     alloc: Global,
     leads: &[Items<u8>],
@@ -68,9 +68,9 @@ fn numbers_in(
     Ok(Some(values))
 }
 
-/// The number that stands behind so many bytes, and what stands behind the byte after it.
+// The number that stands behind so many bytes, and what stands behind the byte after it.
 fn number_behind(count: usize, text: &[u8]) -> Option<(i64, &[u8])>
-    ensures { (label more : List ℕ) (z : ℤ) → length label ≡ count → IsSmall z → IsApart more → text.now ≡ label ++ signed_decimal z ++ more → MatchOption result ⊥ (λ r. (r.0 ≡ z) × (r.1.now ≡ drop 1 more)) }
+    ensures { NumberBehind count text.now (λ z more. MatchOption result ⊥ (λ r. (r.0 ≡ z) × (r.1.now ≡ drop 1 more))) }
 {
     let behind = after(count, text);
     let end = number_len(behind);
@@ -78,14 +78,14 @@ fn number_behind(count: usize, text: &[u8]) -> Option<(i64, &[u8])>
     Some((number, after(end + 1, behind)))
 }
 
-/// What stands behind so many bytes.
+// What stands behind so many bytes.
 fn after(count: usize, bytes: &[u8]) -> &[u8]
     ensures { result.now ≡ drop count bytes.now }
 {
     &bytes[count.min(bytes.len())..]
 }
 
-/// How many bytes stand before the first blank or comma.
+// How many bytes stand before the first blank or comma.
 fn number_len(bytes: &[u8]) -> usize
     ensures value { result ≡ prefix_len words.goes_on bytes.now }
     ensures within { result ≤ length bytes.now }
@@ -98,14 +98,14 @@ fn number_len(bytes: &[u8]) -> usize
     bytes.len()
 }
 
-/// Whether a byte is neither a blank nor a comma.
+// Whether a byte is neither a blank nor a comma.
 fn goes_on(byte: u8) -> bool
     ensures { result ≡ words.goes_on byte }
 {
     byte != b' ' && byte != b','
 }
 
-/// The number that these bytes write, perhaps with more zeros or another sign than it is written with.
+// The number that these bytes write, perhaps with more zeros or another sign than it is written with.
 fn number_of(bytes: &[u8]) -> Option<i64>
     ensures { (z : ℤ) → IsSmall z → bytes.now ≡ signed_decimal z → result ≡ Some z }
 {

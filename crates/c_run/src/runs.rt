@@ -45,7 +45,7 @@ pub fn run(
     }
 }
 
-/// Runs the entry function of the program.
+// Runs the entry function of the program.
 fn start(given: Given, entry: &Func, values: &[i64]) -> Result<RunEnd, NoMemory>
     requires formed { WellFormed given.program.now }
     requires entry { slice_get given.program.now.funcs given.program.now.entry ≡ Some entry.now }
@@ -61,7 +61,7 @@ fn start(given: Given, entry: &Func, values: &[i64]) -> Result<RunEnd, NoMemory>
     run_entry(given, entry, arguments.as_slice(), globals)
 }
 
-/// Runs the entry function on these arguments and globals.
+// Runs the entry function on these arguments and globals.
 fn run_entry(
     given: Given,
     entry: &Func,
@@ -81,12 +81,12 @@ fn run_entry(
     machine.finish(given, first)
 }
 
-/// The numbers of a row are less than 2^32.
+// The numbers of a row are less than 2^32.
 fn row_is_small(row: &[u32])
     ensures { (n : ℕ) → unwrap_or (slice_get row.now n) 0 < 2 ^ 32 }
 {}
 
-/// Each block's cost is less than 2^32, as the type of the table says: it leaves the table as it is.
+// Each block's cost is less than 2^32, as the type of the table says: it leaves the table as it is.
 fn costs_are_small(costs: &Costs)
     ensures { (b : BlockName) → block_cost costs.now b < 2 ^ 32 }
 {

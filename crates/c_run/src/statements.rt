@@ -1,14 +1,11 @@
 //! Statements that are no loops and no calls (C11 6.8.2, 6.8.4, 6.8.6), and what a statement of each kind begins with.
 
-ghost use Rattle.std.specs.Prelude.{◌≡◌, ◌<◌, ◌+◌, ◌%◌, ◌^◌, true, false, if◌then◌else◌, None, [], ◌∷◌, ◌++◌, option_map, option_copied, slice_get, take, IfOk, OnOk};
-ghost use Rattle.c_tree.specs.Values.{is_true};
-ghost use Rattle.c_tree.specs.Expressions.{val, all_values};
-ghost use Rattle.c_tree.specs.Blocks.{list_blocks};
-ghost use Rattle.c_tree.specs.Statements.{Ends, with_value, after, then_do, entered, stored, simple, return_value, block, list_exec, held};
+ghost use Rattle.std.specs.Prelude.{◌≡◌, ◌<◌, ◌+◌, ◌%◌, ◌^◌, true, false, [], ◌∷◌, IfOk};
+ghost use Rattle.c_tree.specs.Statements.{Ends, after, return_value, block};
 ghost use Rattle.c_tree.specs.Claims.{block_cost};
 ghost use Rattle.c_run.specs.declared.machine.Given.{Given};
-ghost use Rattle.c_run.specs.Machine.{functions, remains, ends_as};
-ghost use Rattle.c_run.specs.Work.{list_work, efforts, waiting, left};
+ghost use Rattle.c_run.specs.Machine.{remains, ComesTo, simple_from, chosen_list};
+ghost use Rattle.c_run.specs.Work.{waiting, left, choice_work};
 
 use crate::blocks::{self, blocks, held_blocks, is_simple, plus};
 use crate::expressions::value;
@@ -41,7 +38,7 @@ impl<'a> Machine<'a> {
     }
 
     /// One statement.
-    pub(crate) fn one(
+    pub(crate) fn statement(
         &mut self,
         given: Given<'a>,
         stmt: &'a Stmt,
@@ -84,7 +81,7 @@ impl<'a> Machine<'a> {
         }
     }
 
-    /// A simple statement.
+    // A simple statement.
     fn plain(
         &mut self,
         given: Given<'a>,
@@ -92,7 +89,7 @@ impl<'a> Machine<'a> {
         at: usize,
         run: bool,
     ) -> Result<Task<'a>, NoMemory>
-        ensures same { IfOk result (λ t. remains given.entry self.new t ≡ ends_as given.entry self.old (after (entered self.old.func at run) (stored (simple stmt.now self.old.memory)))) }
+        ensures same { IfOk result (λ t. ComesTo given.entry self.old self.new t (simple_from self.old stmt.now at run)) }
         ensures less { IfOk result (λ t. left given.entry self.new t < 1 + waiting given.entry self.old) }
     {
         self.cost = with_run(self.cost, given.costs, self.func, at, run);
@@ -103,18 +100,18 @@ impl<'a> Machine<'a> {
         }
     }
 
-    /// A `break` or a `continue`.
+    // A `break` or a `continue`.
     fn jump(&mut self, given: Given<'a>, at: usize, way: Way) -> Task<'a>
-        ensures same { remains given.entry self.new result ≡ ends_as given.entry self.old (Ends (block self.old.func at ∷ []) self.old.memory way) }
+        ensures same { ComesTo given.entry self.old self.new result (Ends (block self.old.func at ∷ []) self.old.memory way) }
         ensures less { left given.entry self.new result < 1 + waiting given.entry self.old }
     {
         self.cost = with_block(self.cost, given.costs, self.func, at);
         Task::Ended(way)
     }
 
-    /// A `return`.
+    // A `return`.
     fn leave(&mut self, given: Given<'a>, e: &Option<Expr>, at: usize) -> Task<'a>
-        ensures same { remains given.entry self.new result ≡ ends_as given.entry self.old (after (block self.old.func at ∷ []) (return_value e.now self.old.memory)) }
+        ensures same { ComesTo given.entry self.old self.new result (after (block self.old.func at ∷ []) (return_value e.now self.old.memory)) }
         ensures less { left given.entry self.new result < 1 + waiting given.entry self.old }
     {
         self.cost = with_block(self.cost, given.costs, self.func, at);
@@ -127,7 +124,7 @@ impl<'a> Machine<'a> {
         }
     }
 
-    /// An `if`.
+    // An `if`.
     fn choose(
         &mut self,
         given: Given<'a>,
@@ -136,8 +133,8 @@ impl<'a> Machine<'a> {
         second: &'a [Stmt],
         at: usize,
     ) -> Result<Task<'a>, NoMemory>
-        ensures same { IfOk result (λ t. remains given.entry self.new t ≡ ends_as given.entry self.old (after (block self.old.func at ∷ []) (with_value (val e.now self.old.memory) (λ v. if is_true v then list_exec (functions given.entry self.old) self.old.func first.now (at + 1) false self.old.memory else list_exec (functions given.entry self.old) self.old.func second.now (at + 1 + list_blocks first.now false) false self.old.memory)))) }
-        ensures less { IfOk result (λ t. left given.entry self.new t < 1 + list_work (efforts given.entry self.old) first.now + list_work (efforts given.entry self.old) second.now + waiting given.entry self.old) }
+        ensures same { IfOk result (λ t. ComesTo given.entry self.old self.new t (chosen_list given.entry self.old e.now first.now second.now at)) }
+        ensures less { IfOk result (λ t. left given.entry self.new t < choice_work given.entry self.old first.now second.now + waiting given.entry self.old) }
     {
         self.cost = with_block(self.cost, given.costs, self.func, at);
         match condition(e, &self.memory) {
@@ -156,7 +153,7 @@ impl<'a> Machine<'a> {
     }
 }
 
-/// The cost with that of the block that a simple statement begins, unless a run of them goes on.
+// The cost with that of the block that a simple statement begins, unless a run of them goes on.
 fn with_run(cost: u128, costs: &Costs, func: u32, at: usize, run: bool) -> u128
     ensures on { run ≡ true → result ≡ cost }
     ensures begun { run ≡ false → result ≡ (cost + block_cost costs.now (block func at)) % 2 ^ 128 }

@@ -21,6 +21,7 @@ pub fn input_text(alloc: Global, program: &Program, input: &Input) -> Result<Vec
     text_of(alloc, program, input)
 }
 
+/// The same text, of any input: the numbers behind what stands before each, as many as there are of both.
 pub(crate) fn text_of(alloc: Global, program: &Program, input: &Input) -> Result<Vec<u8>, NoMemory>
     ensures { IfOk result (λ t. t.items ≡ spec.input_text program.now input.now) }
 {
@@ -30,6 +31,7 @@ pub(crate) fn text_of(alloc: Global, program: &Program, input: &Input) -> Result
     Ok(text)
 }
 
+// Drops the first byte, if there is one.
 fn drop_first(text: &mut Vec<u8>)
     ensures { text.new.items ≡ drop 1 text.old.items }
 {
@@ -38,7 +40,7 @@ fn drop_first(text: &mut Vec<u8>)
     }
 }
 
-/// Each number behind what stands before it.
+// Each number behind what stands before it.
 fn led(alloc: Global, leads: &[Items<u8>], numbers: &[i64]) -> Result<Vec<u8>, NoMemory>
     ensures { IfOk result (λ t. t.items ≡ spec.led leads.now numbers.now) }
 {
@@ -52,6 +54,7 @@ fn led(alloc: Global, leads: &[Items<u8>], numbers: &[i64]) -> Result<Vec<u8>, N
     Ok(text)
 }
 
+// Pushes a number behind what stands before it.
 fn push_number(text: &mut Vec<u8>, lead: &[u8], number: &i64) -> Result<(), AllocError>
     ensures { OnOk result (text.new.items ≡ text.old.items ++ lead.now ++ signed_decimal number.now) }
 {

@@ -5,3 +5,4 @@ pub mod Entries
 pub mod FirstInOrder
 pub mod WorkedTables
 pub mod BlockCosts
+pub mod GivenCosts

@@ -3,7 +3,8 @@
 use c_tree::{Name, NoMemory};
 use std::alloc::AllocError;
 
-/// Why a text is no table of costs for a program. Of several, the first of this list comes.
+/// Why a text is no table of costs for a program. Of several, the first of this list comes; `NoMemory` may come in place
+/// of any of them.
 #[derive(Debug, Drop)]
 pub enum CostFault {
     /// The text is no TOML, as `toml` reads it.

@@ -1,10 +1,11 @@
-//! The law of the first key, and worked tables.
+//! The laws of the first key and of the costs that are given, and worked tables.
 
-ghost use Rattle.std.specs.Prelude.{◌≡◌, ℕ, List, [], ◌∷◌, Bool, Ok, Err, codes};
+ghost use Rattle.std.specs.Prelude.{◌≡◌, ℕ, List, [], ◌∷◌, Bool, true, None, IsSome, Ok, Err, codes};
 ghost use Rattle.toml.specs.Data.{Data, Members};
+ghost use Rattle.c_tree.specs.declared.program.Func.{Func};
 ghost use Rattle.cost_table.specs.Documents.{first_key};
 ghost use Rattle.cost_table.specs.Orders.{IsFirstOrNone};
-ghost use Rattle.cost_table.specs.Tables.{verdict, plain};
+ghost use Rattle.cost_table.specs.Tables.{names_block, fault_of, given, verdict, plain};
 ghost use Rattle.cost_table.specs.Worked.{two_blocks};
 
 use crate::fault::CostFault;
@@ -13,6 +14,11 @@ use crate::fault::CostFault;
 #[tactic(auto, using(crate::proofs::FirstInOrder::first_in_order))]
 pub fn first_in_byte_order()
     ensures { (test : List ℕ → Data → Bool) (ms : Members) → IsFirstOrNone test ms (first_key test ms) }
+{}
+
+/// Where a table has no fault, each block that it is asked for has a cost.
+pub fn costs_are_given()
+    ensures { (fs : List Func) (ms : Members) (name : List ℕ) → fault_of fs ms ≡ None → names_block fs name ≡ true → IsSome (given ms name) }
 {}
 
 /// Tables for `main` with two blocks.

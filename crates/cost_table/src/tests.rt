@@ -437,7 +437,7 @@ fn plain_costs_are_1(rt: HostRuntime) -> Result<(), Fail> {
     Ok(())
 }
 
-/// The time of a large table over a large function stays near linear.
+/// A table of 40,000 keys is read within the time of a test.
 #[test]
 fn a_large_table(rt: HostRuntime) -> Result<(), Fail> {
     let alloc = rt.alloc();

@@ -10,7 +10,7 @@ AreWithinSpans [] (d ∷ ds) = ⊥
 AreWithinSpans (s ∷ ss) [] = ⊥
 AreWithinSpans (s ∷ ss) (d ∷ ds) = (d ≤ 2 ^ 32 * s) × AreWithinSpans ss ds
 
--- over functions above with these bounds, what has this span (a function of their spans) and is followed by this cost has a bound below 2^128
+-- over functions above with these bounds, a part whose span is `span_over` of their spans, with `follows` to come, costs less than 2^128
 pub record HasRoom (above : List ℕ) (span_over : List ℕ → ℕ) (follows : ℕ) : Type 0 where
   pub spans : List ℕ
   pub within : AreWithinSpans spans above

@@ -3,24 +3,28 @@
 ghost use Rattle.std.specs.Prelude.{◌≡◌, ◌<◌, ◌≤◌, ◌+◌, ◌*◌, ◌^◌, ℕ, List, false, [], length, IfOk};
 ghost use Rattle.c_tree.specs.Blocks.{is_simple, begun, blocks, list_blocks};
 ghost use Rattle.c_tree.specs.Spans.{span, list_span, func_span};
-ghost use Rattle.c_tree.specs.Claims.{AreCostsOf};
+ghost use Rattle.c_tree.specs.Claims.{AreCostsOf, Above};
 ghost use Rattle.c_tree.specs.WellFormed.{WellFormed};
 ghost use Rattle.tree_bound.specs.Loops.{stmt_loops, list_loops, has_loop};
 ghost use Rattle.tree_bound.specs.Dear.{number_at, begun_cost, dear, list_dear, dears, bound_of};
 ghost use Rattle.tree_bound.specs.Room.{AreWithinSpans, HasRoom, goes_on_at};
 
+use crate::law::bound_is_above;
 use c_tree::{Costs, Func, NoMemory, Program, Stmt};
 use sqlite_items::Items;
 use std::alloc::Global;
 use typed_laws::is_well_formed;
 
-/// The bound of a program without loops: no run costs more.
+/// The bound of a program without loops under costs of it: the cost of the dearest way through the entry function's tree,
+/// calls included. No run of a fitting input that ends costs more. `NoMemory` is want of memory.
 pub fn bound_of(alloc: Global, program: &Program, costs: &Costs) -> Result<u128, NoMemory>
     requires rows { AreCostsOf program.now costs.now }
     requires loops { has_loop program.now ≡ false }
-    ensures { IfOk result (λ n. n ≡ bound_of program.now costs.now) }
+    ensures bound { IfOk result (λ n. n ≡ bound_of program.now costs.now) }
+    ensures above { IfOk result (λ n. Above program.now costs.now n) }
 {
     is_well_formed(program);
+    bound_is_above();
     let bounds = func_bounds(alloc, program, costs)?;
     Ok(bounds.as_slice()[program.entry as usize])
 }
@@ -171,6 +175,7 @@ fn stmt_dear(stmt: &Stmt, goes_on: bool, row: &[u32], above: &[u128], rest: Rest
             block_before(row, Rest { cost, ..first })
         }
         Stmt::Group(list) => list_dear(list.as_slice(), row, above, rest),
+        // Outside loops there are none.
         Stmt::Break | Stmt::Continue => Rest {
             first: rest.first - 1,
             cost: 0,

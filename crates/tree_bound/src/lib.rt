@@ -7,5 +7,5 @@ mod law;
 mod loops;
 
 pub use dear::bound_of;
-pub use law::bound_is_above;
+pub use law::{bound_is_above, worked_bounds, worked_loops};
 pub use loops::has_loop;

@@ -14,7 +14,7 @@ use Rattle.c_run.proofs.WorkLayers.{work-Empty, work-Scalar, work-Array, work-As
 use Rattle.std.proofs.Common.{Result, Ok, Err}
 use Rattle.c_tree.specs.Statements.{while_turns, do_turns}
 use Rattle.c_run.proofs.Steps.{exec_plain, for_turns, for_work}
-use Rattle.c_run.proofs.machine.Machine.one.Goals as goal
+use Rattle.c_run.proofs.machine.Machine.statement.Goals as goal
 
 less_more : {E : Type 0} (r : Result Task E) (h : Task → ℕ) (a b : ℕ) → a ≤ b → IfOk r (λ t. h t < a) → IfOk r (λ t. h t < b)
 less_more (Ok t) h a b le lt = omega (arith, lt)
