@@ -10,7 +10,7 @@ ghost use Rattle.c_run.specs.Machine as loops;
 ghost use Rattle.c_run.specs.Machine.{behind, functions, entering, turns, remains, ends_as};
 ghost use Rattle.c_run.specs.Work.{list_work, pending_work, turn_work, efforts, waiting, left};
 
-use crate::blocks::{self, held_blocks, plus};
+use crate::counts::{held_blocks, list_blocks, plus};
 use crate::machine::{DoLoop, Given, Loop, Machine, Pending, Task, condition, with_block};
 use c_tree::{Expr, NoMemory, Stmt, Way};
 use sqlite_items::Boxed;
@@ -189,7 +189,7 @@ pub(crate) fn do_loop<'a>(
     Ok(DoLoop {
         condition,
         body,
-        at: plus(at, blocks::list_blocks(body)?)?,
+        at: plus(at, list_blocks(body)?)?,
         body_at: at,
         left: bound,
     })
