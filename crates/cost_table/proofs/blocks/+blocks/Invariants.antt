@@ -1,7 +1,0 @@
-use Rattle.std.proofs.Common.{◌≡◌, ◌+◌, false, drop}
-use Rattle.c_tree.specs.Blocks.{list_blocks}
-use Rattle.cost_table.proofs.blocks.+blocks.Given as goal
-
--- the blocks counted, and those of what is left
-abbrev pub invariant-list_blocks-loop-stmt : goal.invariant-list_blocks-loop-stmt
-invariant-list_blocks-loop-stmt l = l.count + list_blocks (drop l.stmt-index l.list) l.goes_on ≡ list_blocks l.list false
