@@ -4,7 +4,7 @@ ghost use Rattle.std.specs.Prelude.{◌≡◌, IfOk, Some, None, []};
 ghost use Rattle.c_tree.specs.Constants as spec;
 ghost use Rattle.c_tree.specs.Expressions.{val, type_of, bin_ty, un_ty, chosen};
 
-use crate::operators;
+use c_semantics::{common, convert, is_true, of_word, operated, unary};
 use c_tree::{BinOp, NoMemory, RawExpr, RawShape, Ty, UnOp, Value};
 use sqlite_items::Items;
 
@@ -56,11 +56,11 @@ fn bin_ty(op: BinOp, a: Ty, b: Ty) -> Ty
     ensures { result ≡ bin_ty op a b }
 {
     match op {
-        BinOp::Mul => operators::common(a, b),
-        BinOp::Div => operators::common(a, b),
-        BinOp::Rem => operators::common(a, b),
-        BinOp::Add => operators::common(a, b),
-        BinOp::Sub => operators::common(a, b),
+        BinOp::Mul => common(a, b),
+        BinOp::Div => common(a, b),
+        BinOp::Rem => common(a, b),
+        BinOp::Add => common(a, b),
+        BinOp::Sub => common(a, b),
         BinOp::Shl => a,
         BinOp::Shr => a,
         BinOp::Lt => Ty::Int,
@@ -69,9 +69,9 @@ fn bin_ty(op: BinOp, a: Ty, b: Ty) -> Ty
         BinOp::Ge => Ty::Int,
         BinOp::Eq => Ty::Int,
         BinOp::Ne => Ty::Int,
-        BinOp::And => operators::common(a, b),
-        BinOp::Xor => operators::common(a, b),
-        BinOp::Or => operators::common(a, b),
+        BinOp::And => common(a, b),
+        BinOp::Xor => common(a, b),
+        BinOp::Or => common(a, b),
         BinOp::Both => Ty::Int,
         BinOp::Either => Ty::Int,
     }
@@ -89,7 +89,7 @@ fn type_of(e: &RawExpr) -> Ty
         RawExpr::Un(_, op, a) => un_ty(*op, type_of(a.get())),
         RawExpr::Cast(_, ty, _) => *ty,
         RawExpr::Bin(op, a, b) => bin_ty(*op, type_of(a.get()), type_of(b.get())),
-        RawExpr::Cond(_, a, b) => operators::common(type_of(a.get()), type_of(b.get())),
+        RawExpr::Cond(_, a, b) => common(type_of(a.get()), type_of(b.get())),
         RawExpr::Paren(_, a) => type_of(a.get()),
     }
 }
@@ -97,8 +97,8 @@ fn type_of(e: &RawExpr) -> Ty
 fn chosen(c: Option<Value>, ty: Ty, a: Option<Value>, b: Option<Value>) -> Option<Value>
     ensures { result ≡ chosen c ty a b }
 {
-    let v = if operators::is_true(c?) { a? } else { b? };
-    Some(operators::convert(ty, v))
+    let v = if is_true(c?) { a? } else { b? };
+    Some(convert(ty, v))
 }
 
 // The value of an expression without names; a name has none.
@@ -107,14 +107,14 @@ fn value_of(e: &RawExpr) -> Option<Value>
     ensures { result ≡ val (spec.expr_of [] e.now) spec.no_store }
 {
     match e {
-        RawExpr::Num(_, ty, n) => Some(operators::of_word(*ty, *n)),
+        RawExpr::Num(_, ty, n) => Some(of_word(*ty, *n)),
         RawExpr::Name(_) => None,
         RawExpr::Elem(_, _) => None,
-        RawExpr::Un(_, op, a) => operators::unary(*op, value_of(a.get())?),
-        RawExpr::Cast(_, ty, a) => Some(operators::convert(*ty, value_of(a.get())?)),
-        RawExpr::Bin(op, a, b) => operators::operated(*op, value_of(a.get()), value_of(b.get())),
+        RawExpr::Un(_, op, a) => unary(*op, value_of(a.get())?),
+        RawExpr::Cast(_, ty, a) => Some(convert(*ty, value_of(a.get())?)),
+        RawExpr::Bin(op, a, b) => operated(*op, value_of(a.get()), value_of(b.get())),
         RawExpr::Cond(c, a, b) => {
-            let ty = operators::common(type_of(a.get()), type_of(b.get()));
+            let ty = common(type_of(a.get()), type_of(b.get()));
             chosen(value_of(c.get()), ty, value_of(a.get()), value_of(b.get()))
         }
         RawExpr::Paren(_, a) => value_of(a.get()),
@@ -135,7 +135,7 @@ pub(crate) fn kept_number(ty: Ty, constant: Option<Value>) -> i64
 {
     match constant {
         None => 0,
-        Some(v) => match operators::convert(ty, v) {
+        Some(v) => match convert(ty, v) {
             Value::Int(z) => i64::from(z),
             Value::Unsigned(n) => i64::from(n),
         },

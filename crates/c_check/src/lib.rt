@@ -8,7 +8,6 @@ mod entry;
 mod expr;
 mod fault;
 mod names;
-mod operators;
 mod spans;
 mod stmt;
 mod unit;

@@ -1,11 +1,11 @@
 //! The spans of functions, up to the greatest that is told apart.
 
 ghost use Rattle.std.specs.Prelude.{◌≡◌, ◌+◌, ◌*◌, [], false, IfOk};
-ghost use Rattle.c_tree.specs.Blocks.{is_simple};
 ghost use Rattle.c_tree.specs.Statements.{held};
 ghost use Rattle.c_tree.specs.Spans.{span, list_span, func_span, span_at, begun_span};
 ghost use Rattle.c_check.specs.Capped.{capped, capped_spans};
 
+use c_semantics::is_simple;
 use c_tree::{Func, NoMemory, Stmt};
 use sqlite_items::Boxed;
 use std::alloc::Global;
@@ -33,27 +33,6 @@ fn product(a: u128, b: u128) -> u128
     ensures { result ≡ capped (a * b) }
 {
     a.saturating_mul(b).min(CAP)
-}
-
-// Whether a statement goes on in a run of simple ones.
-fn is_simple(stmt: &Stmt) -> bool
-    ensures { result ≡ is_simple stmt.now }
-{
-    match stmt {
-        Stmt::Empty => true,
-        Stmt::Scalar(_, _) => true,
-        Stmt::Array(_, _) => true,
-        Stmt::Assign(_, _, _) => true,
-        Stmt::Call(_, _, _) => false,
-        Stmt::Break => false,
-        Stmt::Continue => false,
-        Stmt::Return(_) => false,
-        Stmt::If(_, _, _) => false,
-        Stmt::While(_, _, _) => false,
-        Stmt::Do(_, _, _) => false,
-        Stmt::For(_, _, _, _, _) => false,
-        Stmt::Group(_) => false,
-    }
 }
 
 #[tactic(auto, using(crate::proofs::CappedSpans::capped_layers))]

@@ -1,4 +1,5 @@
 pub mod Declared
+pub mod OneStatement
 pub mod Remains
 pub mod WorkLayers
 pub mod Steps

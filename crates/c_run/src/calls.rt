@@ -11,7 +11,7 @@ ghost use Rattle.c_run.specs.Work.{work_at, efforts, waiting, left, callee_work,
 use crate::machine::{Given, Machine, Pending, Task, with_block};
 use crate::memory::Memory;
 use crate::simple::{all_values, padded};
-use crate::values::convert;
+use c_semantics::convert;
 use c_tree::{Expr, Func, Local, NoMemory, Program, Slot, Target, Ty, Value, Var, Way};
 use std::alloc::Global;
 

@@ -5,8 +5,7 @@ ghost use Rattle.c_tree.specs.Stores as stores;
 ghost use Rattle.c_tree.specs.Expressions as spec;
 
 use crate::memory::{Memory, slot_ty};
-use crate::operators::{binary, unary};
-use crate::values::{common, convert, is_true, of_word, truth};
+use c_semantics::{common, convert, is_true, of_word, operated, unary};
 use c_tree::{BinOp, Expr, Slot, Ty, UnOp, Value};
 
 /// The number of a scalar.
@@ -67,7 +66,8 @@ fn type_of(e: &Expr, s: &Memory) -> Ty
     }
 }
 
-/// The value of an expression, or None where it is undefined.
+/// The value of an expression, or None where it is undefined. No value changes a store, so the right operand of `&&` and `||` is
+/// evaluated also where it does not count.
 #[tactic(auto, using(c_tree::proofs::ValLayers::val_layers))]
 pub(crate) fn value(e: &Expr, s: &Memory) -> Option<Value>
     ensures { result ≡ spec.val e.now s.now }
@@ -81,27 +81,7 @@ pub(crate) fn value(e: &Expr, s: &Memory) -> Option<Value>
         }
         Expr::Un(op, a) => unary(*op, value(a.get(), s)?),
         Expr::Cast(ty, a) => Some(convert(*ty, value(a.get(), s)?)),
-        Expr::Bin(op, a, b) => match op {
-            BinOp::Both => {
-                if is_true(value(a.get(), s)?) {
-                    Some(truth(is_true(value(b.get(), s)?)))
-                } else {
-                    Some(truth(false))
-                }
-            }
-            BinOp::Either => {
-                if is_true(value(a.get(), s)?) {
-                    Some(truth(true))
-                } else {
-                    Some(truth(is_true(value(b.get(), s)?)))
-                }
-            }
-            _ => {
-                let x = value(a.get(), s)?;
-                let y = value(b.get(), s)?;
-                binary(*op, x, y)
-            }
-        },
+        Expr::Bin(op, a, b) => operated(*op, value(a.get(), s), value(b.get(), s)),
         Expr::Cond(c, a, b) => {
             let ty = common(type_of(a.get(), s), type_of(b.get(), s));
             if is_true(value(c.get(), s)?) {

@@ -6,7 +6,7 @@ ghost use Rattle.c_tree.specs.Runs as spec;
 ghost use Rattle.c_tree.specs.WellFormed.{WellFormedGlobal, WellFormedGlobals};
 ghost use Rattle.c_run.specs.Starts.{NumberAt, Takes, own_width, own_slot};
 
-use crate::values::zero_of;
+use c_semantics::zero_of;
 use c_tree::{Func, Global as Outside, NoMemory, Slot, Ty, Value};
 use sqlite_items::{Items, at};
 use std::alloc::Global;

@@ -1,8 +1,8 @@
 //! Runs of a program, and the texts of its inputs.
 #![tactic(auto)]
 
-mod blocks;
 mod calls;
+mod counts;
 mod expressions;
 mod fitting;
 mod inputs;
@@ -11,13 +11,11 @@ mod leads;
 mod loops;
 mod machine;
 mod memory;
-mod operators;
 mod reading;
 mod run_end;
 mod runs;
 mod simple;
 mod statements;
-mod values;
 mod writing;
 
 pub use fitting::fits;

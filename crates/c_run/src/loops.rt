@@ -8,7 +8,7 @@ ghost use Rattle.c_run.specs.Machine as loops;
 ghost use Rattle.c_run.specs.Machine.{turns, remains, ComesTo, entering_loop, begun_for, resumed};
 ghost use Rattle.c_run.specs.Work.{waiting, left, begun_work, work_behind};
 
-use crate::blocks::{self, held_blocks, plus};
+use crate::counts::{held_blocks, list_blocks, plus};
 use crate::machine::{DoLoop, Given, Loop, Machine, Pending, Task, condition, with_block};
 use c_tree::{Expr, NoMemory, Stmt, Way};
 use sqlite_items::Boxed;
@@ -187,7 +187,7 @@ pub(crate) fn do_loop<'a>(
     Ok(DoLoop {
         condition,
         body,
-        at: plus(at, blocks::list_blocks(body)?)?,
+        at: plus(at, list_blocks(body)?)?,
         body_at: at,
         left: bound,
     })

@@ -12,7 +12,7 @@ ghost use Rattle.c_run.specs.Work.{left};
 use crate::expressions::value;
 use crate::memory::Memory;
 use crate::run_end::RunEnd;
-use crate::values::is_true;
+use c_semantics::is_true;
 use c_tree::{Costs, Expr, NoMemory, Program, Slot, Stmt, Target, Ty, Way};
 use std::alloc::Global;
 

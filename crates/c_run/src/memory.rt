@@ -5,7 +5,7 @@ ghost use Rattle.c_tree.specs.declared.value.Store.{Store};
 ghost use Rattle.c_tree.specs.Stores as spec;
 ghost use Rattle.c_run.specs.Changed.{changed, changed_list, with_element};
 
-use crate::values::{convert, ty_of};
+use c_semantics::{convert, ty_of};
 use c_tree::{Slot, Ty, Value, Var};
 use sqlite_items::Items;
 use std::marker::Model;

@@ -3,40 +3,16 @@
 ghost use Rattle.std.specs.Prelude.{◌≡◌, option_copied, option_and_then, IfOk};
 ghost use Rattle.c_tree.specs.Values as values;
 ghost use Rattle.c_tree.specs.Stores as stores;
-ghost use Rattle.c_tree.specs.Operators as operators;
 ghost use Rattle.c_tree.specs.Expressions as expressions;
 ghost use Rattle.c_tree.specs.Statements as spec;
 ghost use Rattle.c_run.specs.Changed.{changed};
 
 use crate::expressions::{index, number_at, number_in, value};
 use crate::memory::{Memory, slot_ty};
-use crate::operators::binary;
-use crate::values::{convert, is_true, truth, zero_of};
+use c_semantics::{convert, operated, zero_of};
 use c_tree::{BinOp, Expr, NoMemory, Place, Slot, Stmt, Ty, Value, Var};
 use sqlite_items::Items;
 use std::alloc::Global;
-
-/// An operator on two operands, of which each may be undefined.
-fn operated(op: BinOp, a: Option<Value>, b: Option<Value>) -> Option<Value>
-    ensures { result ≡ operators.operated op a b }
-{
-    let x = a?;
-    match op {
-        BinOp::Both => {
-            if !is_true(x) {
-                return Some(truth(false));
-            }
-            Some(truth(is_true(b?)))
-        }
-        BinOp::Either => {
-            if is_true(x) {
-                return Some(truth(true));
-            }
-            Some(truth(is_true(b?)))
-        }
-        _ => binary(op, x, b?),
-    }
-}
 
 fn place_value(place: &Place, memory: &Memory) -> Option<Value>
     ensures { result ≡ spec.place_value place.now memory.now }

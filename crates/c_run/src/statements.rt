@@ -7,11 +7,12 @@ ghost use Rattle.c_run.specs.declared.machine.Given.{Given};
 ghost use Rattle.c_run.specs.Machine.{remains, ComesTo, simple_from, chosen_list};
 ghost use Rattle.c_run.specs.Work.{waiting, left, choice_work};
 
-use crate::blocks::{self, blocks, held_blocks, is_simple, plus};
+use crate::counts::{held_blocks, list_blocks, plus, stmt_blocks};
 use crate::expressions::value;
 use crate::loops::{do_loop, for_loop, while_loop};
 use crate::machine::{Given, Machine, Pending, Task, condition, with_block};
 use crate::simple::simple;
+use c_semantics::is_simple;
 use c_tree::{Costs, Expr, NoMemory, Stmt, Way};
 
 impl<'a> Machine<'a> {
@@ -31,7 +32,7 @@ impl<'a> Machine<'a> {
         self.wait(Pending::Rest {
             func: self.func,
             stmts: rest,
-            at: plus(at, blocks(stmt, run)?)?,
+            at: plus(at, stmt_blocks(stmt, run)?)?,
             run: is_simple(stmt),
         })?;
         Ok(Task::One { stmt, at, run })
@@ -146,7 +147,7 @@ impl<'a> Machine<'a> {
             }),
             Some(false) => Ok(Task::List {
                 stmts: second,
-                at: plus(plus(at, 1)?, blocks::list_blocks(first)?)?,
+                at: plus(plus(at, 1)?, list_blocks(first)?)?,
                 run: false,
             }),
         }

@@ -1,7 +1,7 @@
 //! The bound by recursion over the trees.
 
 ghost use Rattle.std.specs.Prelude.{◌≡◌, ◌<◌, ◌≤◌, ◌+◌, ◌*◌, ◌^◌, ℕ, List, false, [], length, IfOk};
-ghost use Rattle.c_tree.specs.Blocks.{is_simple, begun, blocks, list_blocks};
+ghost use Rattle.c_tree.specs.Blocks.{begun, blocks, list_blocks};
 ghost use Rattle.c_tree.specs.Spans.{span, list_span, func_span};
 ghost use Rattle.c_tree.specs.Claims.{AreCostsOf, Above};
 ghost use Rattle.c_tree.specs.WellFormed.{WellFormed};
@@ -10,6 +10,7 @@ ghost use Rattle.tree_bound.specs.Dear.{number_at, begun_cost, dear, list_dear, 
 ghost use Rattle.tree_bound.specs.Room.{AreWithinSpans, HasRoom, goes_on_at};
 
 use crate::law::bound_is_above;
+use c_semantics::is_simple;
 use c_tree::{Costs, Func, NoMemory, Program, Stmt};
 use sqlite_items::Items;
 use std::alloc::Global;
@@ -95,18 +96,6 @@ fn simple_dear(goes_on: bool, row: &[u32], rest: Rest) -> Rest
         rest
     } else {
         block_before(row, rest)
-    }
-}
-
-fn is_simple(stmt: &Stmt) -> bool
-    ensures { result ≡ is_simple stmt.now }
-{
-    match stmt {
-        Stmt::Empty => true,
-        Stmt::Scalar(_, _) => true,
-        Stmt::Array(_, _) => true,
-        Stmt::Assign(_, _, _) => true,
-        _ => false,
     }
 }
 

@@ -26,7 +26,7 @@ returns-in_default-clause-less c =
 pub returns-clause-same : goal.returns-clause-same
 unfolding doing behind
 returns-clause-same c =
-    λ g. let m = c.args.self.now in let st = c.in-Some.stmt.now in let xs = c.in-Some.rest.now in let first = exec (functions g m) m.func st c.args.at c.args.run m.memory in let at = c.in_ok-plus.ensures ∙ ap (λ n. c.args.at + n) c.in_ok-blocks.ensures in let p = pending.Rest m.func c.in-Some.rest c.in_ok-plus.field-0 c.is_simple.result in pushed g m c.wait.new.self p (task.One c.in-Some.stmt c.args.at c.args.run) c.in_ok-wait.ensures ∙ ap (λ n. ends_as g m (then_do first (list_exec (functions g m) m.func xs n c.is_simple.result))) at ∙ ap (λ r. ends_as g m (then_do first (list_exec (functions g m) m.func xs (c.args.at + blocks st c.args.run) r))) c.is_simple.ensures ∙ ap (λ xs. ends_as g m (list_exec (functions g m) m.func xs c.args.at c.args.run m.memory)) (sym c.in-Some.ensures.cases.0)
+    λ g. let m = c.args.self.now in let st = c.in-Some.stmt.now in let xs = c.in-Some.rest.now in let first = exec (functions g m) m.func st c.args.at c.args.run m.memory in let at = c.in_ok-plus.ensures ∙ ap (λ n. c.args.at + n) c.in_ok-stmt_blocks.ensures in let p = pending.Rest m.func c.in-Some.rest c.in_ok-plus.field-0 c.is_simple.result in pushed g m c.wait.new.self p (task.One c.in-Some.stmt c.args.at c.args.run) c.in_ok-wait.ensures ∙ ap (λ n. ends_as g m (then_do first (list_exec (functions g m) m.func xs n c.is_simple.result))) at ∙ ap (λ r. ends_as g m (then_do first (list_exec (functions g m) m.func xs (c.args.at + blocks st c.args.run) r))) c.is_simple.ensures ∙ ap (λ xs. ends_as g m (list_exec (functions g m) m.func xs c.args.at c.args.run m.memory)) (sym c.in-Some.ensures.cases.0)
 
 pub returns-clause-less : goal.returns-clause-less
 unfolding task_work pending_work

@@ -5,7 +5,8 @@ ghost use Rattle.c_tree.specs.Values as spec;
 
 use c_tree::{Ty, Value};
 
-pub(crate) fn ty_of(v: Value) -> Ty
+/// The type of a value (C11 6.2.5).
+pub fn ty_of(v: Value) -> Ty
     ensures { result ≡ spec.ty_of v }
 {
     match v {
@@ -14,8 +15,8 @@ pub(crate) fn ty_of(v: Value) -> Ty
     }
 }
 
-/// The common type of two operands.
-pub(crate) fn common(a: Ty, b: Ty) -> Ty
+/// The common type of two operands, by the usual arithmetic conversions (C11 6.3.1.8): `unsigned` if one of them is.
+pub fn common(a: Ty, b: Ty) -> Ty
     ensures { result ≡ spec.common a b }
 {
     match a {
@@ -24,7 +25,8 @@ pub(crate) fn common(a: Ty, b: Ty) -> Ty
     }
 }
 
-pub(crate) fn zero_of(ty: Ty) -> Value
+/// The 0 of a type, with which an object is filled that has no number of its own (C11 6.7.9).
+pub fn zero_of(ty: Ty) -> Value
     ensures { result ≡ spec.zero_of ty }
 {
     match ty {
@@ -33,8 +35,8 @@ pub(crate) fn zero_of(ty: Ty) -> Value
     }
 }
 
-/// The 32 bits of a value.
-pub(crate) fn word(v: Value) -> u32
+/// The 32 bits of a value, in two's complement (C11 6.2.6.2).
+pub fn word(v: Value) -> u32
     ensures { result ≡ spec.word v }
 {
     match v {
@@ -43,8 +45,8 @@ pub(crate) fn word(v: Value) -> u32
     }
 }
 
-/// The value of a type that has these bits.
-pub(crate) fn of_word(ty: Ty, n: u32) -> Value
+/// The value of a type that has these bits (C11 6.2.6.2).
+pub fn of_word(ty: Ty, n: u32) -> Value
     ensures { result ≡ spec.of_word ty n }
 {
     match ty {
@@ -53,7 +55,8 @@ pub(crate) fn of_word(ty: Ty, n: u32) -> Value
     }
 }
 
-pub(crate) fn convert(ty: Ty, v: Value) -> Value
+/// A value converted to a type (C11 6.3.1.3): modulo 2^32, to `int` too.
+pub fn convert(ty: Ty, v: Value) -> Value
     ensures { result ≡ spec.convert ty v }
 {
     match ty {
@@ -65,13 +68,15 @@ pub(crate) fn convert(ty: Ty, v: Value) -> Value
     }
 }
 
-pub(crate) fn truth(b: bool) -> Value
+/// The `int` 1 or 0 that is the result of a relation or of `!`, `&&` and `||` (C11 6.5.3.3, 6.5.8, 6.5.9, 6.5.13, 6.5.14).
+pub fn truth(b: bool) -> Value
     ensures { result ≡ spec.truth b }
 {
     if b { Value::Int(1) } else { Value::Int(0) }
 }
 
-pub(crate) fn is_true(v: Value) -> bool
+/// Whether a condition holds that has this value: it is not 0 (C11 6.8.4.1, 6.8.5).
+pub fn is_true(v: Value) -> bool
     ensures { result ≡ spec.is_true v }
 {
     match v {

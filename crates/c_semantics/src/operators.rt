@@ -1,4 +1,4 @@
-//! The operators on values (C11 6.5.3.3, 6.5.5 to 6.5.14). None is undefined.
+//! The operators on values (C11 6.5.3.3, 6.5.5 to 6.5.14). None stands for a result that is undefined.
 
 ghost use Rattle.std.specs.Prelude.{◌≡◌, ◌<◌, ℤ, SomeIff, FitsSigned};
 ghost use Rattle.std.specs.Int.{w32};
@@ -7,6 +7,7 @@ ghost use Rattle.c_tree.specs.Operators as spec;
 use crate::values::{common, is_true, of_word, truth, ty_of, word, zero_of};
 use c_tree::{BinOp, UnOp, Value};
 
+// An `int`, where the number is one.
 fn int(fit: Option<i32>) -> Option<Value>
     ensures { (z : ℤ) → SomeIff fit (FitsSigned w32 z) z → result ≡ spec.int z }
 {
@@ -171,6 +172,7 @@ fn bit_xor(a: Value, b: Value) -> Option<Value>
     Some(of_word(common(ty_of(a), ty_of(b)), word(a) ^ word(b)))
 }
 
+// The count of a shift, where it is 0 to 31.
 fn count(v: Value) -> Option<u32>
     ensures { result ≡ spec.count v }
 {
@@ -216,21 +218,23 @@ fn shifted_left(a: Value, k: u32) -> Option<Value>
     }
 }
 
-fn left(a: Value, b: Value) -> Option<Value>
+fn shift_left(a: Value, b: Value) -> Option<Value>
     ensures { result ≡ spec.binary BinOp.Shl a b }
 {
     let k = count(b)?;
     shifted_left(a, k)
 }
 
-fn right(a: Value, b: Value) -> Option<Value>
+fn shift_right(a: Value, b: Value) -> Option<Value>
     ensures { result ≡ spec.binary BinOp.Shr a b }
 {
     let k = count(b)?;
     shifted_right(a, k)
 }
 
-pub(crate) fn binary(op: BinOp, a: Value, b: Value) -> Option<Value>
+/// A binary operator on two values (C11 6.5.5 to 6.5.12). None where the result is undefined: it leaves the range of `int`, a
+/// divisor is 0, or a shift is none of 6.5.7; and for `&&` and `||`, which may go by one operand alone (`operated`).
+pub fn binary(op: BinOp, a: Value, b: Value) -> Option<Value>
     ensures { result ≡ spec.binary op a b }
 {
     match op {
@@ -239,8 +243,8 @@ pub(crate) fn binary(op: BinOp, a: Value, b: Value) -> Option<Value>
         BinOp::Rem => remainder(a, b),
         BinOp::Add => sum(a, b),
         BinOp::Sub => difference(a, b),
-        BinOp::Shl => left(a, b),
-        BinOp::Shr => right(a, b),
+        BinOp::Shl => shift_left(a, b),
+        BinOp::Shr => shift_right(a, b),
         BinOp::Lt => less(a, b),
         BinOp::Gt => greater(a, b),
         BinOp::Le => at_most(a, b),
@@ -254,7 +258,8 @@ pub(crate) fn binary(op: BinOp, a: Value, b: Value) -> Option<Value>
     }
 }
 
-pub(crate) fn unary(op: UnOp, a: Value) -> Option<Value>
+/// A unary operator on a value (C11 6.5.3.3). None where the result is undefined: it leaves the range of `int`.
+pub fn unary(op: UnOp, a: Value) -> Option<Value>
     ensures { result ≡ spec.unary op a }
 {
     match op {
@@ -262,5 +267,43 @@ pub(crate) fn unary(op: UnOp, a: Value) -> Option<Value>
         UnOp::Minus => difference(zero_of(ty_of(a)), a),
         UnOp::Flip => Some(of_word(ty_of(a), u32::MAX - word(a))),
         UnOp::Not => Some(truth(!is_true(a))),
+    }
+}
+
+// `&&`: the right operand counts only where the left one is not 0.
+fn both(a: Option<Value>, b: Option<Value>) -> Option<Value>
+    ensures { result ≡ spec.both a b }
+{
+    if is_true(a?) {
+        Some(truth(is_true(b?)))
+    } else {
+        Some(truth(false))
+    }
+}
+
+// `||`: the right operand counts only where the left one is 0.
+fn either(a: Option<Value>, b: Option<Value>) -> Option<Value>
+    ensures { result ≡ spec.either a b }
+{
+    if is_true(a?) {
+        Some(truth(true))
+    } else {
+        Some(truth(is_true(b?)))
+    }
+}
+
+/// A binary operator on operands of which each may be undefined (C11 6.5.5 to 6.5.14). None where an operand that counts is
+/// undefined or the result is: of `&&` and `||` the right operand counts only where the left one does not decide.
+pub fn operated(op: BinOp, a: Option<Value>, b: Option<Value>) -> Option<Value>
+    ensures { result ≡ spec.operated op a b }
+{
+    match op {
+        BinOp::Both => both(a, b),
+        BinOp::Either => either(a, b),
+        _ => {
+            let x = a?;
+            let y = b?;
+            binary(op, x, y)
+        }
     }
 }

@@ -1,6 +1,6 @@
 use Rattle.std.proofs.Common.{◌≡◌, ◌+◌, false, drop}
 use Rattle.c_tree.specs.Blocks.{list_blocks}
-use Rattle.cost_table.proofs.blocks.+blocks.Given as goal
+use Rattle.c_semantics.proofs.blocks.+blocks.Given as goal
 
 -- the blocks counted, and those of what is left
 abbrev pub invariant-list_blocks-loop-stmt : goal.invariant-list_blocks-loop-stmt
