@@ -15,7 +15,7 @@ use crate::memory::Memory;
 use crate::run_end::RunEnd;
 use c_tree::{Costs, Func, Input, NoMemory, Program, Slot, Value};
 use std::alloc::Global;
-use typed_laws::is_well_formed;
+use typed_laws::program_is_well_formed;
 
 /// Runs a program on an input, and answers how the run ends (C11 6.5, 6.8): with the sum of the costs of the blocks that
 /// it enters, or at a step that is undefined, or where a loop's bound would be passed, whichever comes first. It returns,
@@ -30,7 +30,7 @@ pub fn run(
     requires fits { IsTrue (spec.fits program.now input.now) }
     ensures end { IfOk result (λ e. e ≡ ended costs.now (spec.run program.now input.now)) }
 {
-    is_well_formed(program);
+    program_is_well_formed(program);
     costs_are_small(costs);
     match program.funcs.get(program.entry as usize) {
         None => Ok(RunEnd::Undefined),

@@ -20,7 +20,7 @@ use crate::unfold::lay_out;
 use c_tree::{Costs, NoMemory, Program};
 use sqlite_items::Items;
 use std::alloc::Global;
-use typed_laws::is_well_formed;
+use typed_laws::program_is_well_formed;
 
 const COPIES: Weights = Weights {
     test: 1,
@@ -44,7 +44,7 @@ pub fn plan(alloc: Global, program: Program, costs: Costs) -> Result<Plan, PlanF
     ensures whole { OnOk result (refusal (graph program) ≡ None) }
     ensures refused { IfErr result (λ e. e ≢ PlanFault.NoMemory → refusal (graph program) ≡ Some e) }
 {
-    is_well_formed(&program);
+    program_is_well_formed(&program);
     let copies = check_size(alloc, &program)?;
     let spots = spots_of(alloc, &program)?;
     check_caps(&program, spots.as_slice())?;

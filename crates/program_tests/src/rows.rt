@@ -11,7 +11,7 @@ use ipet_rows::{SoundRow, SoundRows, caps_bound, caps_box, rows};
 use lin_rows::{Row, RowKind};
 use std::alloc::{AllocError, Global};
 use std::test::Fail;
-use typed_laws::is_well_formed;
+use typed_laws::program_is_well_formed;
 
 fn row(alloc: Global, row: &Row) -> Result<String, AllocError> {
     let mut shown = String::new(alloc);
@@ -95,7 +95,7 @@ fn sound_row<'p>(plan: &'p Plan, row: Row) -> SoundRow<'p>
     requires { row ≡ at_most (plus 0 1 ∷ []) 1 }
     ensures { result.plan ≡ plan.now }
 {
-    is_well_formed(plan.program());
+    program_is_well_formed(plan.program());
     SoundRow::of(plan, row)
 }
 

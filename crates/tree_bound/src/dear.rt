@@ -14,7 +14,7 @@ use c_semantics::is_simple;
 use c_tree::{Costs, Func, NoMemory, Program, Stmt};
 use sqlite_items::Items;
 use std::alloc::Global;
-use typed_laws::is_well_formed;
+use typed_laws::program_is_well_formed;
 
 /// The bound of a program without loops under costs of it: the cost of the dearest way through the entry function's tree,
 /// calls included. No run of a fitting input that ends costs more. `NoMemory` is want of memory.
@@ -24,7 +24,7 @@ pub fn bound_of(alloc: Global, program: &Program, costs: &Costs) -> Result<u128,
     ensures bound { IfOk result (λ n. n ≡ bound_of program.now costs.now) }
     ensures above { IfOk result (λ n. Above program.now costs.now n) }
 {
-    is_well_formed(program);
+    program_is_well_formed(program);
     bound_is_above();
     let bounds = func_bounds(alloc, program, costs)?;
     Ok(bounds.as_slice()[program.entry as usize])

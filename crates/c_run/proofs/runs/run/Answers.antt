@@ -16,7 +16,7 @@ returns-in-None c =
 pub start-requires : goal.start-requires
 start-requires c =
     let entry = c.in-Some.ensures.value ∙ ap (λ (p : Program). slice_get p.funcs p.entry) c.program.view_is in
-    record { formed = c.is_well_formed.ensures; entry = sym entry; fits = subst (λ zs. IsTrue (are_of (input_types c.args.program.now) zs)) (sym c.as_slice.ensures) c.requires.fits }
+    record { formed = c.program_is_well_formed.ensures; entry = sym entry; fits = subst (λ zs. IsTrue (are_of (input_types c.args.program.now) zs)) (sym c.as_slice.ensures) c.requires.fits }
 
 pub returns-in-Some : goal.returns-in-Some
 returns-in-Some c =
@@ -28,4 +28,4 @@ returns-in-Some c =
     let entry = c.in-Some.ensures.value ∙ ap (λ (p : Program). slice_get p.funcs p.entry) c.program.view_is in
     let there : slice_get p.funcs p.entry ≡ Some h = sym entry in
     let is = run_some p i h there in
-    record { end = subst (λ x. IfOk c.start.result (λ e. e ≡ x)) (ap (begun g h) c.as_slice.ensures ∙ ended_is t h.result _ (λ u e. cost_fits p t c.is_well_formed.ensures c.costs_are_small.ensures i u (is ∙ e)) ∙ ap (ended t) (sym is)) c.start.ensures }
+    record { end = subst (λ x. IfOk c.start.result (λ e. e ≡ x)) (ap (begun g h) c.as_slice.ensures ∙ ended_is t h.result _ (λ u e. cost_fits p t c.program_is_well_formed.ensures c.costs_are_small.ensures i u (is ∙ e)) ∙ ap (ended t) (sym is)) c.start.ensures }

@@ -9,7 +9,7 @@ use Rattle.flow_graph.proofs.planning.plan.Goals as goal
 pub edges_of-requires : goal.edges_of-requires
 edges_of-requires c =
     let p = c.args.program in
-    let s = short p (entered p c.is_well_formed.ensures.entry) c.in_ok-copies.ensures.fewer in
+    let s = short p (entered p c.program_is_well_formed.ensures.entry) c.in_ok-copies.ensures.fewer in
     let l = ap length (c.as_slice-2.ensures ∙ c.in_ok-spots.ensures) in
     omega (arith, s, l)
 
@@ -27,7 +27,7 @@ of_graph-requires c =
     let edges_is = c.as_slice-4.ensures ∙ e in
     let spots_is = c.as_slice-3.ensures ∙ s in
     record {
-      formed = c.is_well_formed.ensures;
+      formed = c.program_is_well_formed.ensures;
       costed = c.requires.costed;
       allowed = c.in_ok-check_caps.ensures.whole;
       nodes_are = s;

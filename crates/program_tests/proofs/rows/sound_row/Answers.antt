@@ -11,7 +11,7 @@ use Rattle.program_tests.proofs.rows.sound_row.Goals as goal
 pub of-requires-clause-holds : goal.of-requires-clause-holds
 of-requires-clause-holds c =
     let p = c.args.plan.now.program in
-    subst (HoldsOnPaths p) (sym c.requires) (entry_at_most p (subst WellFormed c.program.ensures.value c.is_well_formed.ensures))
+    subst (HoldsOnPaths p) (sym c.requires) (entry_at_most p (subst WellFormed c.program.ensures.value c.program_is_well_formed.ensures))
 
 pub of-requires-clause-below : goal.of-requires-clause-below
 of-requires-clause-below c =

@@ -9,7 +9,7 @@ pub bounds-as_slice-program-inside : goal.bounds-as_slice-program-inside
 bounds-as_slice-program-inside c =
     let all = length-dears c.args.costs.now [] c.args.program.now.funcs in
     let entry = ap (λ (p : Program). p.entry) c.program.view_is in
-    omega (arith, all, entry, c.is_well_formed.ensures.entry, ap length c.as_slice.ensures, ap length c.in_ok-bounds.ensures)
+    omega (arith, all, entry, c.program_is_well_formed.ensures.entry, ap length c.as_slice.ensures, ap length c.in_ok-bounds.ensures)
 
 pub returns : goal.returns
 returns c =
@@ -18,4 +18,4 @@ returns c =
     let entry = ap (λ (p : Program). p.entry) c.program.view_is in
     let is : c.as_slice.result.now ≡ dears t [] p.funcs = c.as_slice.ensures ∙ c.in_ok-bounds.ensures in
     let bound = (λ k. get_or (is k) (entry k) 0) ∙ sym (number_at-past (dears t [] p.funcs) p.entry) in
-    record { bound = bound; above = subst (Above p t) (sym bound) (c.bound_is_above.ensures p t c.is_well_formed.ensures c.requires.loops) }
+    record { bound = bound; above = subst (Above p t) (sym bound) (c.bound_is_above.ensures p t c.program_is_well_formed.ensures c.requires.loops) }
