@@ -2,9 +2,9 @@
 //! number, so that a program whose calls inline without bound is measured in time linear in its text.
 
 ghost use Rattle.std.specs.Prelude.{◌≡◌, IfOk, false, []};
-ghost use Rattle.c_tree.specs.Blocks.{is_simple};
 ghost use Rattle.flow_graph.specs.Amounts.{plus, amount, list_amount, held_amount, begun_amount, call_amount, amounts};
 
+use c_semantics::is_simple;
 use c_tree::{Func, NoMemory, Stmt};
 use sqlite_items::{Boxed, Items};
 use std::alloc::Global;
@@ -14,18 +14,6 @@ use std::alloc::Global;
 pub(crate) struct Weights {
     pub test: u64,
     pub landing: u64,
-}
-
-pub(crate) fn is_simple(stmt: &Stmt) -> bool
-    ensures { result ≡ is_simple stmt.now }
-{
-    match stmt {
-        Stmt::Empty => true,
-        Stmt::Scalar(_, _) => true,
-        Stmt::Array(_, _) => true,
-        Stmt::Assign(_, _, _) => true,
-        _ => false,
-    }
 }
 
 /// The amount of each function, over those above it.

@@ -12,8 +12,9 @@ ghost use Rattle.flow_graph.specs.Amounts.{kept};
 ghost use Rattle.flow_graph.specs.Spots.{spots};
 ghost use Rattle.flow_graph.specs.Layout.{AreSizes, copies_above, place, turn, targets, spot_at, landing_at, pending, past_run, list_spots, laid_out};
 
-use crate::amounts::{Weights, is_simple, list_amount, stmt_amount};
+use crate::amounts::{Weights, list_amount, stmt_amount};
 use crate::spot::{Ends, Spot, Turn};
+use c_semantics::is_simple;
 use c_tree::{BlockName, Func, NoMemory, Stmt};
 use flow_laws::Node;
 use sqlite_items::{Boxed, Items};
