@@ -266,6 +266,11 @@ node_at [] n x h lt e = absurd (omega (arith, lt))
 node_at (s ∷ g) zero x h lt e = ap Some ((λ i. record { block = s.node.block; chain = s.node.chain; cap = sym (small s.node.cap h.0) i }) ∙ ap (λ y. y.node) (sym e))
 node_at (s ∷ g) (suc n) x h lt e = node_at g n x h.1 (omega (arith, lt)) e
 
+pub cap_at_most : (g : List Site) (n : ℕ) (x : Spot) → AllWithin (2 ^ 40) g → n < length g → x ≡ get_or (spots g) n x → x.node.cap ≤ 2 ^ 40
+cap_at_most [] n x h lt e = absurd (omega (arith, lt))
+cap_at_most (s ∷ g) zero x h lt e = omega (arith, ap (λ (y : Spot). y.node.cap) e, small s.node.cap h.0, h.0)
+cap_at_most (s ∷ g) (suc n) x h lt e = cap_at_most g n x h.1 (omega (arith, lt)) e
+
 pub cost_at : (t : Costs) (g : List Site) (n : ℕ) → cost_of_spot t (slice_get (spots g) n) ≡ cost_of_site t (slice_get g n)
 cost_at t [] n = refl
 cost_at t (s ∷ g) zero = refl

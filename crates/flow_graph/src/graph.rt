@@ -1,12 +1,12 @@
 //! Plans.
 
-ghost use Rattle.std.specs.Prelude.{◌≡◌, ◌<◌, ◌≤◌, None, Some, ◌&&◌, nat_lt, length, slice_get};
+ghost use Rattle.std.specs.Prelude.{◌≡◌, ◌<◌, ◌≤◌, ◌^◌, None, Some, ◌&&◌, nat_lt, length, slice_get};
 ghost use Rattle.std.specs.List.{list_all};
 ghost use Rattle.c_tree.specs.Claims.{AreCostsOf};
 ghost use Rattle.c_tree.specs.WellFormed.{WellFormed};
 ghost use Rattle.flow_laws.specs.Graphs.{graph, nodes, edges, loops};
 ghost use Rattle.flow_laws.specs.Paths.{edge_cost, follows, keeps_each};
-ghost use Rattle.flow_graph.specs.Limits.{block_copies};
+ghost use Rattle.flow_graph.specs.Limits.{block_copies, refusal};
 ghost use Rattle.flow_graph.specs.Plans.{IsPlan, planned, keeps_all};
 
 use crate::lists::{edge_cost, follows, keeps_each, names_edges};
@@ -67,10 +67,11 @@ impl Plan {
         }
     }
 
-    /// The program. It is well-formed.
+    /// The program. It is well-formed, and its graph is within the limits.
     pub fn program(&self) -> &Program
         ensures value { result.now ≡ self.now.program }
         ensures formed { WellFormed self.now.program }
+        ensures allowed { refusal (graph self.now.program) ≡ None }
     {
         &self.program
     }
@@ -114,18 +115,20 @@ impl Plan {
         &self.edges.as_slice()[e as usize]
     }
 
-    /// The cost of the block of the edge's source, and 0 for Entry and landings.
+    /// The cost of the block of the edge's source, and 0 for Entry and landings. It is below 2^32.
     pub fn cost(&self, e: u16) -> u64
         requires { e < length (edges (graph self.now.program)) }
-        ensures { result ≡ edge_cost self.now.costs (graph self.now.program) e }
+        ensures value { result ≡ edge_cost self.now.costs (graph self.now.program) e }
+        ensures small { result < 2 ^ 32 }
     {
         edge_cost(&self.costs, self.edges.as_slice(), self.spots.as_slice(), e)
     }
 
-    /// The node number `n`.
+    /// The node number `n`. Its cap is at most 2^40.
     pub fn node(&self, n: u32) -> &Node
         requires { n < length (graph self.now.program) }
-        ensures { slice_get (nodes (graph self.now.program)) n ≡ Some result.now }
+        ensures value { slice_get (nodes (graph self.now.program)) n ≡ Some result.now }
+        ensures cap { result.now.cap ≤ 2 ^ 40 }
     {
         &self.spots.as_slice()[n as usize].node
     }

@@ -129,7 +129,7 @@ fn landing(alloc: Global, scope: Scope, scale: u64, next: u32) -> Result<Spot, N
     })
 }
 
-// A node, whose block's number is the last before the answer.
+// Adds the node of the block at a place; the answer is the number of the next block.
 fn put(
     alloc: Global,
     scope: Scope,

@@ -92,7 +92,8 @@ fn is_among(number: u16, numbers: &[u16]) -> bool
 
 /// The cost of the block of an edge's source.
 pub(crate) fn edge_cost(costs: &Costs, edges: &[Edge], spots: &[Spot], number: u16) -> u64
-    ensures { result ≡ cost_of_source costs.now spots.now (slice_get edges.now number) }
+    ensures value { result ≡ cost_of_source costs.now spots.now (slice_get edges.now number) }
+    ensures small { result < 2 ^ 32 }
 {
     let Some(edge) = edge_at(edges, number) else {
         return 0;
@@ -107,7 +108,8 @@ pub(crate) fn edge_cost(costs: &Costs, edges: &[Edge], spots: &[Spot], number: u
 }
 
 fn block_cost(costs: &Costs, block: BlockName) -> u64
-    ensures { result ≡ block_cost costs.now block }
+    ensures value { result ≡ block_cost costs.now block }
+    ensures small { result < 2 ^ 32 }
 {
     let Some(row) = costs.by_func.get(block.func as usize) else {
         return 0;

@@ -32,7 +32,8 @@ const EDGES: Weights = Weights {
     landing: 1,
 };
 
-/// The plan of a program with its costs: the flat graph of its entry function, calls inlined.
+/// The plan of a program with its costs: the flat graph of its entry function, calls inlined. Program and costs are consumed,
+/// also where there is no plan; whoever needs them again copies them first.
 ///
 /// # Errors
 ///
@@ -73,7 +74,7 @@ fn check_size(alloc: Global, program: &Program) -> Result<u32, PlanFault>
     Ok(copies as u32)
 }
 
-// That no cap of a block copy is above the limit.
+// Refuses the first block copy whose cap is above the limit.
 fn check_caps(program: &Program, laid: &[Spot]) -> Result<(), PlanFault>
     requires nodes { laid.now ≡ spots (graph program.now) }
     requires few { block_copies (graph program.now) ≤ 1024 }

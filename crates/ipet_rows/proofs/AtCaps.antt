@@ -11,7 +11,7 @@ use Rattle.flow_laws.specs.declared.graph.Edge.{Edge}
 use Rattle.flow_laws.specs.declared.graph.Node.{Node}
 use Rattle.flow_laws.specs.Sites.{Site}
 use Rattle.flow_laws.specs.Graphs.{graph, edges, nodes}
-use Rattle.flow_laws.specs.Paths.{count, cap_of, cost_of_block, cost_of_site, cost_of_edge, price, worth_of}
+use Rattle.flow_laws.specs.Paths.{count, cap_of, cost_of_edge, price, worth_of}
 use Rattle.flow_laws.specs.Claims.{DrivesPath}
 use Rattle.flow_laws.proofs.Formed.{to_path, capped}
 use Rattle.flow_laws.proofs.Totals.{price_by_counts}
@@ -27,15 +27,6 @@ pub cap_is : (g : List Site) (n : ℕ) (x : Node) → slice_get (nodes g) n ≡ 
 cap_is [] n x h = absurd (cc)
 cap_is (s ∷ g) zero x h = let same : s.node ≡ x = cc in ap (λ (y : Node). y.cap) same
 cap_is (s ∷ g) (suc n) x h = cap_is g n x h
-
-cost_is : (t : Costs) (g : List Site) (n : ℕ) (x : Node) → slice_get (nodes g) n ≡ Some x → cost_of_site t (slice_get g n) ≡ cost_of_block t x.block
-cost_is t [] n x h = absurd (cc)
-cost_is t (s ∷ g) zero x h = let same : s.node ≡ x = cc in ap (λ (y : Node). cost_of_block t y.block) same
-cost_is t (s ∷ g) (suc n) x h = cost_is t g n x h
-
--- the node of an edge's source
-pub edge_at : (t : Costs) (g : List Site) (es : List Edge) (j : ℕ) (e : Edge) (x : Node) → slice_get es j ≡ Some e → slice_get (nodes g) e.from ≡ Some x → cost_of_edge t g (slice_get es j) * cap_at g (slice_get es j) ≡ cost_of_block t x.block * x.cap
-edge_at t g es j e x h k = ap (λ o. cost_of_edge t g o * cap_at g o) h ∙ (λ i. cost_is t g e.from x k i * cap_is g e.from x k i)
 
 -- ---- above paths
 

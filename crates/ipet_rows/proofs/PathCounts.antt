@@ -30,20 +30,20 @@ unfolding graph edges
 has_edge p = some_edge (slice_get (copies [] p.funcs) p.entry)
 
 entry_holds : (p : Program) → WellFormed p → HoldsOnPaths p entry_row
-entry_holds p w i q d =
+entry_holds p w q (i, _, d) =
     let at : slice_index (counts p q) 0 ≡ 1 = count_at q 0 0 (edges (graph p)) (has_edge p) ∙ entered p i q w d in
     omega (arith, ints, at)
 
 -- so it is taken once at most
 pub entry_at_most : (p : Program) → WellFormed p → HoldsOnPaths p (record { terms = (0, pos 1) ∷ []; kind = AtMost; right = pos 1 })
-entry_at_most p w i q d =
+entry_at_most p w q (i, _, d) =
     let at : slice_index (counts p q) 0 ≡ 1 = count_at q 0 0 (edges (graph p)) (has_edge p) ∙ entered p i q w d in
     omega (arith, ints, at)
 
 -- ---- nodes
 
 node_holds : (p : Program) (n : ℕ) → WellFormed p → 2 ≤ n → HoldsOnPaths p (node_row (edges (graph p)) n)
-node_holds p n w le i q d =
+node_holds p n w le q (i, _, d) =
     let es = edges (graph p) in
     let same = passed p i q w d n le in
     left_is (node_factor n) q es ∙ node_is n q 0 es ∙ omega (arith, ints, same)
@@ -68,7 +68,7 @@ copy_at g (c ∷ cs) zero l h = let same : l ≡ loop_of g c = cc in (c, same)
 copy_at g (c ∷ cs) (suc k) l h = copy_at g cs k l h
 
 loop_holds : (p : Program) (k : ℕ) (l : Loop) → WellFormed p → slice_get (loops (graph p)) k ≡ Some l → HoldsOnPaths p (loop_row (edges (graph p)) l)
-loop_holds p k l w is i q d =
+loop_holds p k l w is q (i, _, d) =
     let g = graph p in
     let es = edges g in
     let c = copy_at g (loop_copies g) k l is in

@@ -1,11 +1,10 @@
 -- The counts of a list of edges as a vector, and the rows that the counts of all driven paths meet.
 use Rattle.std.specs.Prelude.{ℕ, ◌+◌, List, [], ◌∷◌, All}
 use Rattle.c_tree.specs.declared.program.Program.{Program}
-use Rattle.c_tree.specs.declared.program.Input.{Input}
 use Rattle.flow_laws.specs.declared.graph.Edge.{Edge}
 use Rattle.flow_laws.specs.Graphs.{graph, edges}
 use Rattle.flow_laws.specs.Paths.{count}
-use Rattle.flow_laws.specs.Claims.{DrivesPath}
+use Rattle.flow_laws.specs.Claims.{IsDriven}
 use Rattle.lin_rows.specs.declared.row.Row.{Row}
 use Rattle.lin_rows.specs.Meeting.{MeetsRow}
 
@@ -20,7 +19,7 @@ counts p q = counts_from q 0 (edges (graph p))
 
 -- the counts of each driven path of the program meet the row
 abbrev pub HoldsOnPaths : Program → Row → Type 0
-HoldsOnPaths p row = (i : Input) (q : List ℕ) → DrivesPath p i q → MeetsRow (counts p q) row
+HoldsOnPaths p row = (q : List ℕ) → IsDriven p q → MeetsRow (counts p q) row
 
 -- and so each of the rows
 abbrev pub HoldOnPaths : Program → List Row → Type 0

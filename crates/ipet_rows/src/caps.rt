@@ -1,25 +1,26 @@
 //! The bound by caps.
 
 ghost use Rattle.std.specs.Prelude.{◌≡◌, ◌≤◌, ◌<◌, ◌*◌, ◌^◌, length, slice_get, IfOk};
-ghost use Rattle.c_tree.specs.Claims.{Above, block_cost};
+ghost use Rattle.c_tree.specs.Claims.{Above};
 ghost use Rattle.c_tree.specs.WellFormed.{WellFormed};
 ghost use Rattle.flow_laws.specs.Graphs.{graph, edges};
-ghost use Rattle.flow_laws.specs.Paths.{cost_of_block, edge_cost};
+ghost use Rattle.flow_laws.specs.Paths.{edge_cost};
 ghost use Rattle.ipet_rows.specs.CapsBound.{cap_at, caps_bound, caps_of_edges};
 
-use c_tree::{BlockName, Costs, NoMemory, Program};
+use c_tree::{NoMemory, Program};
 use flow_graph::Plan;
 use lin_rows::CountBox;
 use sqlite_items::Items;
 use std::alloc::Global;
 
-/// What all edges cost, each taken as often as its cap says: no run costs more. It is at most 2^107.
+/// What all edges cost, each taken as often as its cap says: no run costs more. It is at most 2^83: at most 2,048
+/// edges, caps of at most 2^40, costs below 2^32.
 ///
 /// It takes no memory, and a few steps for each edge.
 pub fn caps_bound(plan: &Plan) -> u128
     ensures value { result ≡ caps_bound plan.now.costs (graph plan.now.program) }
     ensures above { Above plan.now.program plan.now.costs result }
-    ensures room { result ≤ 2 ^ 107 }
+    ensures room { result ≤ 2 ^ 83 }
 {
     sum_at_caps(plan, plan.program())
 }
@@ -29,7 +30,7 @@ fn sum_at_caps(plan: &Plan, program: &Program) -> u128
     requires program { program.now ≡ plan.now.program }
     requires formed { WellFormed program.now }
     ensures value { result ≡ caps_bound plan.now.costs (graph plan.now.program) }
-    ensures room { result ≤ 2 ^ 107 }
+    ensures room { result ≤ 2 ^ 83 }
 {
     let mut sum: u128 = 0;
     for e in 0..plan.edges() as u16 {
@@ -43,37 +44,18 @@ fn cost_at_cap(plan: &Plan, e: u16) -> u128
     requires formed { WellFormed plan.now.program }
     requires edge { e < length (edges (graph plan.now.program)) }
     ensures value { result ≡ edge_cost plan.now.costs (graph plan.now.program) e * cap_at (graph plan.now.program) (slice_get (edges (graph plan.now.program)) e) }
-    ensures room { result ≤ 2 ^ 96 }
+    ensures room { result ≤ 2 ^ 72 }
 {
-    let node = plan.node(plan.edge(e).from);
-    product(cost_of_block(plan.costs(), node.block), node.cap)
+    product(plan.cost(e), cap_at(plan, e))
 }
 
-fn product(cost: u32, cap: u64) -> u128
+fn product(cost: u64, cap: u64) -> u128
+    requires cost { cost < 2 ^ 32 }
+    requires cap { cap ≤ 2 ^ 40 }
     ensures value { result ≡ cost * cap }
-    ensures room { result ≤ 2 ^ 96 }
+    ensures room { result ≤ 2 ^ 72 }
 {
     u128::from(cost) * u128::from(cap)
-}
-
-// The cost of a node's block, and 0 where it has none.
-fn cost_of_block(costs: &Costs, block: Option<BlockName>) -> u32
-    ensures { result ≡ cost_of_block costs.now block }
-{
-    match block {
-        None => 0,
-        Some(block) => block_cost(costs, block),
-    }
-}
-
-fn block_cost(costs: &Costs, block: BlockName) -> u32
-    ensures { result ≡ block_cost costs.now block }
-{
-    let Some(row) = costs.by_func.get(block.func as usize) else {
-        return 0;
-    };
-    let cost = row.as_slice().get(block.number as usize).copied();
-    cost.unwrap_or(0)
 }
 
 /// The box of counts from 0 to the cap of each edge.
@@ -100,7 +82,8 @@ fn limits(alloc: Global, plan: &Plan, program: &Program) -> Result<Items<(u64, u
 fn cap_at(plan: &Plan, e: u16) -> u64
     requires formed { WellFormed plan.now.program }
     requires edge { e < length (edges (graph plan.now.program)) }
-    ensures { result ≡ cap_at (graph plan.now.program) (slice_get (edges (graph plan.now.program)) e) }
+    ensures value { result ≡ cap_at (graph plan.now.program) (slice_get (edges (graph plan.now.program)) e) }
+    ensures most { result ≤ 2 ^ 40 }
 {
     plan.node(plan.edge(e).from).cap
 }

@@ -24,8 +24,8 @@ pub fn path_counts_meet_rows()
     ensures { (p : Program) → WellFormed p → HoldOnPaths p (flow_rows (graph p)) }
 {}
 
-/// No run of a well-formed program costs more than all edges at their caps, and where each block costs a number of 32 bits that is at
-/// most 2^97: two edges leave a node at most, and the caps of the block copies sum to the span, which is at most 2^64.
+/// No run of a well-formed program costs more than all edges at their caps. Where each block costs less than 2^32 that sum is at
+/// most 2^97: at most two edges leave a node, and the caps of the block copies sum to the span, which is at most 2^64.
 pub fn bound_by_caps()
     ensures above { (p : Program) (t : Costs) → WellFormed p → Above p t (caps_bound t (graph p)) }
     ensures room { (p : Program) (t : Costs) → WellFormed p → AreSmall t → caps_bound t (graph p) ≤ 2 ^ 97 }

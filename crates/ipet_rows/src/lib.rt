@@ -1,5 +1,5 @@
-//! The rows of implicit path enumeration of a plan, which the counts of each driven path meet, and the bound that the caps of
-//! its edges give (Li and Malik).
+//! The rows of implicit path enumeration (Li and Malik) of a plan, which the counts of each driven path meet, and the bound that
+//! the caps of its edges give.
 #![tactic(auto)]
 
 mod building;

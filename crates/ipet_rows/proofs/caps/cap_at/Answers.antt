@@ -8,7 +8,7 @@ use Rattle.ipet_rows.proofs.caps.cap_at.Goals as goal
 pub node-requires : goal.node-requires
 node-requires c = (edges_join c.args.plan.now.program c.requires.formed c.args.e c.edge.result.now c.edge.ensures).from
 
-pub returns : goal.returns
-returns c =
+pub returns-clause-value : goal.returns-clause-value
+returns-clause-value c =
     let g = graph c.args.plan.now.program in
-    sym (ap (cap_at g) c.edge.ensures ∙ cap_is g c.edge.result.now.from c.node.result.now c.node.ensures)
+    sym (ap (cap_at g) c.edge.ensures ∙ cap_is g c.edge.result.now.from c.node.result.now c.node.ensures.value)

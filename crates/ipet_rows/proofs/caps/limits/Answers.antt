@@ -8,5 +8,5 @@ pub loop-e-preserved : goal.loop-e-preserved
 loop-e-preserved c =
     let g = graph c.args.plan.now.program in
     let below : c.loop-e.e < length (edges g) = omega (arith, c.loop-e-test.true, c.edges-e-end.ensures.count) in
-    let more = c.in_ok-push.ensures.ok ∙ ap (λ n. c.loop-e.limits ++ (0, n) ∷ []) c.cap_at.ensures in
+    let more = c.in_ok-push.ensures.ok ∙ ap (λ n. c.loop-e.limits ++ (0, n) ∷ []) c.cap_at.ensures.value in
     next_limit g (edges g) c.loop-e.e c.loop-e.limits c.push.new.self (caps_of_edges g (edges g)) below more c.loop-e.invariant

@@ -7,5 +7,5 @@ use Rattle.ipet_rows.proofs.caps.sum_at_caps.Given as goal
 abbrev pub invariant-loop-e : goal.invariant-loop-e
 invariant-loop-e l = record {
   whole : l.sum + cost_at_caps l.plan.costs (graph l.plan.program) (drop l.e (edges (graph l.plan.program))) ≡ caps_bound l.plan.costs (graph l.plan.program);
-  room : l.sum ≤ l.e * 2 ^ 96;
+  room : l.sum ≤ l.e * 2 ^ 72;
 }
