@@ -16,7 +16,7 @@ use crate::line::line_of;
 use crate::reading::one_unit;
 use crate::refusal::{Halt, Refusal};
 use crate::words::job_of;
-use crate::work::answer;
+use crate::work::answer_to_job;
 use c_run::one_input;
 use std::alloc::Global;
 use std::sync::Wait;
@@ -24,14 +24,14 @@ use std::thread::Threads;
 use wc_outside::{Failed, Gate, Shelf, Sink, put_all};
 
 // The answer to the words.
-fn answer_to<S: Shelf>(alloc: Global, words: &[&str], shelf: &mut S) -> Result<Vec<u8>, Halt>
+fn answer_to_words<S: Shelf>(alloc: Global, words: &[&str], shelf: &mut S) -> Result<Vec<u8>, Halt>
     ensures answered { IfOk result (λ text. Answers (map (λ w. w.now) words.now) (S.contents shelf.old) text.items) }
     ensures halted { IfErr result (λ halt. IsWordsHalt halt (request_of (map (λ w. w.now) words.now)) (S.contents shelf.old)) }
     ensures counts { Counts result (S.faults shelf.old) (S.faults shelf.new) }
     ensures same { S.contents shelf.new ≡ S.contents shelf.old }
 {
     match job_of(words) {
-        Some(job) => answer(alloc, &job, shelf),
+        Some(job) => answer_to_job(alloc, &job, shelf),
         None => Err(Halt::Refused(Refusal::Words)),
     }
 }
@@ -126,12 +126,12 @@ pub fn wcet_main<R: Threads + Wait + Sync, S: Shelf, K: Sink, G: Gate + Sync>(
     ensures memory { result ≡ Status.NoMemory → K.written out.new ≡ K.written out.old }
     ensures other { result ≢ Status.Inexact }
 
-    // Where the contents are told and nothing fails outside, an answer that there is is written, if memory serves.
+    // Where the contents are told, nothing fails outside and memory serves, the answer is written if there is one.
     ensures answered { (text : List ℕ) → IsSome (S.contents shelf.old) → Answers (map (λ w. w.now) words.now) (S.contents shelf.old) text
         → ¬ (Rose (S.faults shelf.old) (S.faults shelf.new)) → ¬ (Rose (K.faults out.old) (K.faults out.new))
         → ((result ≡ Status.Whole) × Grew (K.written out.old) (K.written out.new) text) ⊎ result ≡ Status.NoMemory }
 
-    // Where what is refused is refused so, the status is that of the refusal.
+    // Where a refusal holds of the words and the files, the status is that of the refusal.
     ensures refused { (refusal : Refusal) → IsSome (S.contents shelf.old) → Refused (map (λ w. w.now) words.now) (S.contents shelf.old) refusal
         → ¬ (Rose (S.faults shelf.old) (S.faults shelf.new)) → ¬ (Rose (K.faults out.old) (K.faults out.new))
         → result ≡ status_of refusal ⊎ result ≡ Status.NoMemory }
@@ -146,7 +146,7 @@ pub fn wcet_main<R: Threads + Wait + Sync, S: Shelf, K: Sink, G: Gate + Sync>(
 {
     one_unit();
     one_input();
-    match answer_to(alloc, words, shelf) {
+    match answer_to_words(alloc, words, shelf) {
         Ok(text) => tell(out, &text),
         Err(Halt::Refused(refusal)) => refuse(alloc, out, &refusal),
         Err(Halt::ReadFault) => Status::ReadFault,
