@@ -3,7 +3,7 @@
 ghost use Rattle.std.specs.Prelude.{◌≡◌, ◌≢◌, ◌≤◌, ◌<◌, ◌⊎◌, List, ℕ, length, map, IsSome, IfOk, IfErr, OnOk, OnErr};
 ghost use Rattle.wc_outside.specs.Causes.{Rose, HasCause};
 ghost use Rattle.wc_outside.specs.Growth.{Grew, GrewByPrefix};
-ghost use Rattle.squeeze_top.specs.Told.{Answers, Refused, IsWritten, IsRefusedWith, IsWrittenInPart};
+ghost use Rattle.squeeze_top.specs.Told.{Answers, Served, Refused, IsWritten, IsRefusedWith, IsWrittenInPart};
 ghost use Rattle.squeeze_top.specs.declared.refusal.Refusal.{Refusal};
 ghost use Rattle.squeeze_top.specs.declared.refusal.Halt.TheVariants as halt;
 ghost use Rattle.squeeze_top.specs.Halts.{IsWordsHalt, Counts};
@@ -130,6 +130,11 @@ pub fn wcet_main<R: Threads + Wait + Sync, S: Shelf, K: Sink, G: Gate + Sync>(
     ensures answered { (text : List ℕ) → IsSome (S.contents shelf.old) → Answers (map (λ w. w.now) words.now) (S.contents shelf.old) text
         → ¬ (Rose (S.faults shelf.old) (S.faults shelf.new)) → ¬ (Rose (K.faults out.old) (K.faults out.new))
         → ((result ≡ Status.Whole) × Grew (K.written out.old) (K.written out.new) text) ⊎ result ≡ Status.NoMemory }
+
+    // Texts that are accepted are answered, where nothing fails outside and memory serves.
+    ensures complete { IsSome (S.contents shelf.old) → Served (map (λ w. w.now) words.now) (S.contents shelf.old)
+        → ¬ (Rose (S.faults shelf.old) (S.faults shelf.new)) → ¬ (Rose (K.faults out.old) (K.faults out.new))
+        → result ≡ Status.Whole ⊎ result ≡ Status.NoMemory }
 
     // Where a refusal holds of the words and the files, the status is that of the refusal.
     ensures refused { (refusal : Refusal) → IsSome (S.contents shelf.old) → Refused (map (λ w. w.now) words.now) (S.contents shelf.old) refusal
