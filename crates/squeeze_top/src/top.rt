@@ -1,6 +1,6 @@
 //! The top call.
 
-ghost use Rattle.std.specs.Prelude.{◌≡◌, ◌≢◌, ◌≤◌, ◌<◌, ◌⊎◌, List, ℕ, length, map, IsSome, IfOk, IfErr, OnOk, OnErr};
+ghost use Rattle.std.specs.Prelude.{◌≡◌, ◌≢◌, ◌≤◌, ◌<◌, ◌↔◌, ◌⊎◌, List, ℕ, Some, length, map, IsSome, IfOk, IfErr, OnOk, OnErr};
 ghost use Rattle.wc_outside.specs.Causes.{Rose, HasCause};
 ghost use Rattle.wc_outside.specs.Growth.{Grew, GrewByPrefix};
 ghost use Rattle.squeeze_top.specs.Told.{Answers, Served, Refused, IsWritten, IsRefusedWith, IsWrittenInPart};
@@ -9,13 +9,13 @@ ghost use Rattle.squeeze_top.specs.declared.refusal.Halt.TheVariants as halt;
 ghost use Rattle.squeeze_top.specs.Halts.{IsWordsHalt, Counts};
 ghost use Rattle.squeeze_top.specs.Lines.{line_of};
 ghost use Rattle.squeeze_top.specs.Statuses.{status_of};
-ghost use Rattle.squeeze_top.specs.Words.{request_of};
+ghost use Rattle.squeeze_top.specs.Words.{Request, request_of, AskFor};
 
 use crate::Status;
 use crate::line::line_of;
 use crate::reading::one_unit;
 use crate::refusal::{Halt, Refusal};
-use crate::words::job_of;
+use crate::words::{job_of, requests_are_asked};
 use crate::work::answer_to_job;
 use c_run::one_input;
 use std::alloc::Global;
@@ -141,6 +141,9 @@ pub fn wcet_main<R: Threads + Wait + Sync, S: Shelf, K: Sink, G: Gate + Sync>(
         → ¬ (Rose (S.faults shelf.old) (S.faults shelf.new)) → ¬ (Rose (K.faults out.old) (K.faults out.new))
         → result ≡ status_of refusal ⊎ result ≡ Status.NoMemory }
 
+    // Words are read as a request exactly where they ask for it.
+    ensures asked { (asking : List (List ℕ)) (r : Request) → (request_of asking ≡ Some r) ↔ AskFor asking r }
+
     // No fault is passed over.
     ensures no_read_fault { result ≢ Status.ReadFault → S.faults shelf.new ≡ S.faults shelf.old }
     ensures no_write_fault { result ≢ Status.WriteFault → K.faults out.new ≡ K.faults out.old }
@@ -151,6 +154,7 @@ pub fn wcet_main<R: Threads + Wait + Sync, S: Shelf, K: Sink, G: Gate + Sync>(
 {
     one_unit();
     one_input();
+    requests_are_asked();
     match answer_to_words(alloc, words, shelf) {
         Ok(text) => tell(out, &text),
         Err(Halt::Refused(refusal)) => refuse(alloc, out, &refusal),
