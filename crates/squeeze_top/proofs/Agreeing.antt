@@ -26,7 +26,7 @@ use Rattle.squeeze_top.specs.declared.status.Status.TheVariants as status
 use Rattle.squeeze_top.specs.Words.{Request}
 use Rattle.squeeze_top.specs.Accepted.{IsRead, IsAccepted, RefusesText}
 use Rattle.squeeze_top.specs.Answers.{run_line, IsAnswer}
-use Rattle.squeeze_top.specs.Refusing.{RefusesPlan, HasNoPlan, HasProgram, HasInput, ArePricedBy, HasCosts, IsAnswered, Refuses}
+use Rattle.squeeze_top.specs.Refusing.{RefusesPlan, HasNoPlan, HasProgram, HasInput, ArePricedBy, HasCosts, IsAnswered, IsServed, Refuses}
 use Rattle.squeeze_top.specs.Statuses.{status_of}
 
 -- a text has at most one unit
@@ -136,12 +136,12 @@ answered_input Run p t input text h run = (h.values, h.fitting, h.spelled)
 
 -- ---- refusals
 
--- what a refusal finds: lacks program; a program without an input; a program with costs, which has lacks answer; a program without costs
+-- what a refusal finds: no program; a program without an input; a program with costs and without a plan; a program without costs
 data Side (r : Request) (told : Option Files) (refusal : Refusal) : Type 0 where
   Textual : status_of refusal ≡ status.Program → ((p : Program) → HasProgram r told p → ⊥) → Side r told refusal
   Inputless : status_of refusal ≡ status.Words → (p : Program) → HasProgram r told p → (HasInput r p → ⊥) → Side r told refusal
   Ready : status_of refusal ≡ status.Program → (p : Program) (t : Costs) → HasProgram r told p → HasInput r p → HasCosts r told p t
-      → ((text : List ℕ) → plan_refusal (graph p) ≡ None → IsAnswer r.mode p t r.input text → ⊥) → Side r told refusal
+      → (plan_refusal (graph p) ≡ None → ⊥) → Side r told refusal
   Priceless : status_of refusal ≡ status.Costs → (p : Program) → HasProgram r told p → HasInput r p → ((t : Costs) → HasCosts r told p t → ⊥) → Side r told refusal
 
 textual : OneUnit → (refusal : Refusal) (r : Request) (told : Option Files) → IsSome told
@@ -174,7 +174,7 @@ too_large TableSize p h planned = h
 too_large (Table fault) p h planned = h
 
 unplanned : (refusal : Refusal) (r : Request) (told : Option Files) → status_of refusal ≡ status.Program → HasNoPlan refusal r told → Side r told refusal
-unplanned refusal r told same h = Ready same h.program h.costs h.accepted h.input h.priced (λ text planned answer. too_large refusal h.program h.refused planned)
+unplanned refusal r told same h = Ready same h.program h.costs h.accepted h.input h.priced (too_large refusal h.program h.refused)
 
 side : OneUnit → (refusal : Refusal) (r : Request) (told : Option Files) → IsSome told → Refuses refusal r told → Side r told refusal
 side one Words r told some h = absurd h
@@ -219,17 +219,25 @@ agree one a b r told some (Priceless s p has input lacks) (Priceless s2 q has2 i
 pub one_status : OneUnit → (a b : Refusal) (r : Request) (told : Option Files) → IsSome told → Refuses a r told → Refuses b r told → status_of a ≡ status_of b
 one_status one a b r told some h k = agree one a b r told some (side one a r told some h) (side one b r told some k)
 
-answered_side : OneUnit → (refusal : Refusal) (r : Request) (told : Option Files) (text : List ℕ) → IsSome told → Side r told refusal → IsAnswered r told text → ⊥
-answered_side one refusal r told text some (Textual s none) h = none h.program h.accepted
-answered_side one refusal r told text some (Inputless s p has lacks) h =
-    no_input one r told h.program p some h.accepted has (record { read = answered_input r.mode h.program h.costs r.input text h.answer }) lacks
-answered_side one refusal r told text some (Ready s p t has input priced lacks) h =
-    let programs = same_program one r told h.program p some h.accepted has in
-    let found = subst (λ w. HasCosts r told w h.costs) programs h.priced in
-    let costs = same_priced r.costs told p h.costs t some found.priced priced.priced in
-    let planned = subst (λ w. plan_refusal (graph w) ≡ None) programs h.planned in
-    lacks text planned (subst (λ u. IsAnswer r.mode p u r.input text) costs (subst (λ w. IsAnswer r.mode w h.costs r.input text) programs h.answer))
-answered_side one refusal r told text some (Priceless s p has input lacks) h = no_costs one r told h.program p h.costs some h.accepted has h.priced lacks
+-- ---- what is served
 
-pub not_both : OneUnit → (refusal : Refusal) (r : Request) (told : Option Files) (text : List ℕ) → IsSome told → Refuses refusal r told → IsAnswered r told text → ⊥
-not_both one refusal r told text some h answered = answered_side one refusal r told text some (side one refusal r told some h) answered
+pub answered_is_served : (r : Request) (told : Option Files) (text : List ℕ) → IsAnswered r told text → IsServed r told
+answered_is_served r told text h = record {
+  program = h.program;
+  costs = h.costs;
+  accepted = h.accepted;
+  input = record { read = answered_input r.mode h.program h.costs r.input text h.answer };
+  priced = h.priced;
+  planned = h.planned;
+}
+
+served_side : OneUnit → (refusal : Refusal) (r : Request) (told : Option Files) → IsSome told → Side r told refusal → IsServed r told → ⊥
+served_side one refusal r told some (Textual s none) h = none h.program h.accepted
+served_side one refusal r told some (Inputless s p has lacks) h = no_input one r told h.program p some h.accepted has h.input lacks
+served_side one refusal r told some (Ready s p t has input priced lacks) h =
+    lacks (subst (λ w. plan_refusal (graph w) ≡ None) (same_program one r told h.program p some h.accepted has) h.planned)
+served_side one refusal r told some (Priceless s p has input lacks) h = no_costs one r told h.program p h.costs some h.accepted has h.priced lacks
+
+-- what is served is not refused
+pub not_both : OneUnit → (refusal : Refusal) (r : Request) (told : Option Files) → IsSome told → Refuses refusal r told → IsServed r told → ⊥
+not_both one refusal r told some h served = served_side one refusal r told some (side one refusal r told some h) served

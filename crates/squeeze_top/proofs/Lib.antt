@@ -3,3 +3,4 @@ pub mod Agreeing
 mod Growing
 mod BlockLines
 mod Telling
+mod Wording

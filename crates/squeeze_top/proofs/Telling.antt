@@ -7,9 +7,9 @@ use Rattle.squeeze_top.specs.declared.refusal.Refusal.TheVariants.{Words, Size, 
 use Rattle.squeeze_top.specs.declared.status.Status.{Status}
 use Rattle.squeeze_top.specs.declared.status.Status.TheVariants as status
 use Rattle.squeeze_top.specs.Words.{Request}
-use Rattle.squeeze_top.specs.Refusing.{IsAnswered, Refuses, RefusesWords}
+use Rattle.squeeze_top.specs.Refusing.{IsAnswered, IsServed, Refuses, RefusesWords}
 use Rattle.squeeze_top.specs.Statuses.{status_of}
-use Rattle.squeeze_top.proofs.Agreeing.{OneUnit, OneInput, one_answer, one_status, not_both}
+use Rattle.squeeze_top.proofs.Agreeing.{OneUnit, OneInput, one_answer, one_status, answered_is_served, not_both}
 
 -- ---- words
 
@@ -45,11 +45,21 @@ pub answers_agree : OneUnit → OneInput → (request : Option Request) (files :
 answers_agree unit input None files a b some h k = absurd h
 answers_agree unit input (Some r) files a b some h k = one_answer unit input r files a b some h k
 
--- what has an answer is not refused
+-- what is served is not refused
+pub served_stands : OneUnit → (request : Option Request) (files : Option Files) (refusal : Refusal) → IsSome files → IsSomeAnd request (λ r. IsServed r files)
+    → RefusesWords refusal request files → ⊥
+served_stands unit None files refusal some h k = absurd h
+served_stands unit (Some r) files refusal some h k = not_both unit refusal r files some (refuses_some refusal r files k) h
+
+-- what has an answer is served
+answered_served : (request : Option Request) (files : Option Files) (text : List ℕ) → IsSomeAnd request (λ r. IsAnswered r files text) → IsSomeAnd request (λ r. IsServed r files)
+answered_served None files text h = absurd h
+answered_served (Some r) files text h = answered_is_served r files text h
+
+-- so it is not refused
 pub answered_stands : OneUnit → (request : Option Request) (files : Option Files) (text : List ℕ) (refusal : Refusal) → IsSome files → IsSomeAnd request (λ r. IsAnswered r files text)
     → RefusesWords refusal request files → ⊥
-answered_stands unit None files text refusal some h k = absurd h
-answered_stands unit (Some r) files text refusal some h k = not_both unit refusal r files text some (refuses_some refusal r files k) h
+answered_stands unit request files text refusal some h k = served_stands unit request files refusal some (answered_served request files text h) k
 
 -- all refusals have one status
 pub statuses_agree : OneUnit → (request : Option Request) (files : Option Files) (a b : Refusal) → IsSome files → RefusesWords a request files → RefusesWords b request files
@@ -63,6 +73,10 @@ pub whole : (s : Status) (P : Type 0) → (s ≡ status.Whole) ⊎ (s ≡ status
     → ((s ≡ status.Whole) × P) ⊎ (s ≡ status.NoMemory)
 whole s P (inl h) fails told = inl (h, told h)
 whole s P (inr h) fails told = absurd (fails h)
+
+pub complete : (s : Status) → (s ≡ status.Whole) ⊎ (s ≡ status.WriteFault) → (s ≡ status.WriteFault → ⊥) → (s ≡ status.Whole) ⊎ (s ≡ status.NoMemory)
+complete s (inl h) fails = inl h
+complete s (inr h) fails = absurd (fails h)
 
 pub refused : (s t u : Status) (P : Type 0) → (s ≡ status.WriteFault → ⊥) → (s ≢ status.WriteFault → s ≢ status.NoMemory → (s ≡ t) × P) → t ≡ u → (s ≡ u) ⊎ (s ≡ status.NoMemory)
 refused status.Whole t u P fails told same = inl ((told (λ h. absurd (cc)) (λ h. absurd (cc))).0 ∙ same)

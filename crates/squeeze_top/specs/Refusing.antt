@@ -48,6 +48,15 @@ pub record IsAnswered (r : Request) (told : Option Files) (text : List ℕ) : Ty
 pub record HasInput (r : Request) (p : Program) : Type 0 where
   pub read : r.mode ≡ Run → (i : Inputs) × IsTrue (fits p i) × (input_text p i ≡ r.input)
 
+-- the file's text is a program that has costs and a plan, and where it is run an input
+pub record IsServed (r : Request) (told : Option Files) : Type 0 where
+  pub program : Program
+  pub costs : Costs
+  pub accepted : HasProgram r told program
+  pub input : HasInput r program
+  pub priced : HasCosts r told program costs
+  pub planned : plan_refusal (graph program) ≡ None
+
 -- the program is to be run, and the words have no such text
 pub record HasNoInput (r : Request) (told : Option Files) : Type 0 where
   pub mode : r.mode ≡ Run

@@ -5,13 +5,17 @@ use Rattle.wc_outside.specs.Growth.{Grew, GrewByPrefix}
 use Rattle.squeeze_top.specs.declared.refusal.Refusal.{Refusal}
 use Rattle.squeeze_top.specs.declared.status.Status.{Status}
 use Rattle.squeeze_top.specs.Words.{request_of}
-use Rattle.squeeze_top.specs.Refusing.{IsAnswered, RefusesWords}
+use Rattle.squeeze_top.specs.Refusing.{IsAnswered, IsServed, RefusesWords}
 use Rattle.squeeze_top.specs.Lines.{line_of}
 use Rattle.squeeze_top.specs.Statuses.{status_of}
 
 -- the words are read, and this is the answer to them
 abbrev pub Answers : List (List ℕ) → Option Files → List ℕ → Type 0
 Answers words told text = IsSomeAnd (request_of words) (λ r. IsAnswered r told text)
+
+-- the words are read, and the files have all that an answer needs
+abbrev pub Served : List (List ℕ) → Option Files → Type 0
+Served words told = IsSomeAnd (request_of words) (λ r. IsServed r told)
 
 -- the words or the files are refused so
 abbrev pub Refused : List (List ℕ) → Option Files → Refusal → Type 0

@@ -25,7 +25,7 @@ pub(crate) enum Task {
 }
 
 /// What a task writes of a plan.
-pub(crate) fn answer_of(alloc: Global, task: &Task, plan: &Plan) -> Result<Vec<u8>, NoMemory>
+pub(crate) fn text_of_task(alloc: Global, task: &Task, plan: &Plan) -> Result<Vec<u8>, NoMemory>
     requires fits { Suits task.now plan.now.program }
     ensures answered { IfOk result (λ text. Writes task.now plan.now.program plan.now.costs text.items) }
 {

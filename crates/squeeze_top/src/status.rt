@@ -10,11 +10,11 @@ pub enum Status {
     Whole,
     /// The bound is one that need not be met. No mode of today answers it.
     Inexact,
-    /// The words were refused.
+    /// The words were refused, or the text of the input is that of none that fits.
     Words,
-    /// The program's text was refused.
+    /// The program was refused: its size, tokens, tree or names, or the limits of its flat graph.
     Program,
-    /// The cost table was refused. No mode of today answers it.
+    /// The cost table was refused: it is too long, or has a fault.
     Costs,
     /// The shelf's count of faults rose.
     ReadFault,

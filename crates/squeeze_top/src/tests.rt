@@ -87,64 +87,60 @@ fn nested(
     Ok(text)
 }
 
+// Judges words, with a blank between them, over a program and a table. The line has the status, a blank, and what is written.
+// Each `@` is a line feed.
+fn told<R: AllocGlobal + Abort + Threads + Wait + Sync>(
+    rt: &R,
+    words: &str,
+    program: &str,
+    table: &str,
+    line: &str,
+) -> Result<(), Fail> {
+    let alloc = rt.alloc();
+    let words: Vec<&str> = words.split(' ').collect(alloc)?;
+    let program = with_lines(alloc, program)?;
+    let table = with_lines(alloc, table)?;
+    let (code, text) = line.split_once(' ').ok_or("a status and a text")?;
+    let code = code.parse::<u8>().ok().ok_or("a status is a number")?;
+    let text = with_lines(alloc, text)?;
+    judged(
+        rt,
+        &words,
+        program.as_str(),
+        table.as_str(),
+        code,
+        text.as_str(),
+    )
+}
+
+// Words, and what is told of a return of zero, where each block costs 7 by the table.
+const WORDS: &str = "\
+bound f.c ## 0 bound 1@
+bound ## 2 words refused@
+bound f.c f.c ## 2 words refused@
+squeeze f.c ## 2 words refused@
+bound -f.c ## 2 words refused@
+bound - ## 2 words refused@
+bound  ## 5 
+bound g.c ## 5 
+bound f.c --entry main ## 0 bound 1@
+bound f.c --costs t.toml ## 0 bound 7@
+bound f.c --costs t.toml --entry main ## 0 bound 7@
+bound f.c --entry main --costs t.toml ## 2 words refused@
+bound f.c --costs ## 2 words refused@
+bound f.c --costs -t ## 2 words refused@
+bound f.c --costs t.toml --costs t.toml ## 2 words refused@
+bound f.c --costs g.toml ## 5 
+--entry main bound f.c ## 2 words refused@
+";
+
 #[test]
 fn words(rt: HostRuntime) -> Result<(), Fail> {
-    for (words, code, line) in [
-        (["bound", "f.c"].as_slice(), 0, "bound 1\n"),
-        (["bound"].as_slice(), 2, "words refused\n"),
-        ([].as_slice(), 2, "words refused\n"),
-        (["bound", "f.c", "f.c"].as_slice(), 2, "words refused\n"),
-        (["squeeze", "f.c"].as_slice(), 2, "words refused\n"),
-        (["bound", "-f.c"].as_slice(), 2, "words refused\n"),
-        (["bound", "-"].as_slice(), 2, "words refused\n"),
-        (["bound", ""].as_slice(), 5, ""),
-        (["bound", "g.c"].as_slice(), 5, ""),
-        (
-            ["bound", "f.c", "--entry", "main"].as_slice(),
-            0,
-            "bound 1\n",
-        ),
-        (
-            ["bound", "f.c", "--costs", "t.toml"].as_slice(),
-            0,
-            "bound 7\n",
-        ),
-        (
-            ["bound", "f.c", "--costs", "t.toml", "--entry", "main"].as_slice(),
-            0,
-            "bound 7\n",
-        ),
-        (
-            ["bound", "f.c", "--entry", "main", "--costs", "t.toml"].as_slice(),
-            2,
-            "words refused\n",
-        ),
-        (["bound", "f.c", "--costs"].as_slice(), 2, "words refused\n"),
-        (
-            ["bound", "f.c", "--costs", "-t"].as_slice(),
-            2,
-            "words refused\n",
-        ),
-        (
-            ["bound", "f.c", "--costs", "t.toml", "--costs", "t.toml"].as_slice(),
-            2,
-            "words refused\n",
-        ),
-        (["bound", "f.c", "--costs", "g.toml"].as_slice(), 5, ""),
-        (
-            ["--entry", "main", "bound", "f.c"].as_slice(),
-            2,
-            "words refused\n",
-        ),
-    ] {
-        judged(
-            &rt,
-            words,
-            RETURN_OF_ZERO,
-            "version = 1\ndefault = 7",
-            code,
-            line,
-        )?;
+    let table = "version = 1@default = 7";
+    for row in WORDS.split('\n') {
+        if let Some((words, line)) = row.split_once(" ## ") {
+            told(&rt, words, RETURN_OF_ZERO, table, line)?;
+        }
     }
-    Ok(())
+    judged(&rt, &[], RETURN_OF_ZERO, "", 2, "words refused\n")
 }

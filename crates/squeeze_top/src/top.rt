@@ -1,22 +1,22 @@
 //! The top call.
 
-ghost use Rattle.std.specs.Prelude.{◌≡◌, ◌≢◌, ◌≤◌, ◌<◌, ◌⊎◌, List, ℕ, length, map, IsSome, IfOk, IfErr, OnOk, OnErr};
+ghost use Rattle.std.specs.Prelude.{◌≡◌, ◌≢◌, ◌≤◌, ◌<◌, ◌↔◌, ◌⊎◌, List, ℕ, Some, length, map, IsSome, IfOk, IfErr, OnOk, OnErr};
 ghost use Rattle.wc_outside.specs.Causes.{Rose, HasCause};
 ghost use Rattle.wc_outside.specs.Growth.{Grew, GrewByPrefix};
-ghost use Rattle.squeeze_top.specs.Told.{Answers, Refused, IsWritten, IsRefusedWith, IsWrittenInPart};
+ghost use Rattle.squeeze_top.specs.Told.{Answers, Served, Refused, IsWritten, IsRefusedWith, IsWrittenInPart};
 ghost use Rattle.squeeze_top.specs.declared.refusal.Refusal.{Refusal};
 ghost use Rattle.squeeze_top.specs.declared.refusal.Halt.TheVariants as halt;
 ghost use Rattle.squeeze_top.specs.Halts.{IsWordsHalt, Counts};
 ghost use Rattle.squeeze_top.specs.Lines.{line_of};
 ghost use Rattle.squeeze_top.specs.Statuses.{status_of};
-ghost use Rattle.squeeze_top.specs.Words.{request_of};
+ghost use Rattle.squeeze_top.specs.Words.{Request, request_of, AskFor};
 
 use crate::Status;
 use crate::line::line_of;
 use crate::reading::one_unit;
 use crate::refusal::{Halt, Refusal};
-use crate::words::job_of;
-use crate::work::answer;
+use crate::words::{job_of, requests_are_asked};
+use crate::work::answer_to_job;
 use c_run::one_input;
 use std::alloc::Global;
 use std::sync::Wait;
@@ -24,14 +24,14 @@ use std::thread::Threads;
 use wc_outside::{Failed, Gate, Shelf, Sink, put_all};
 
 // The answer to the words.
-fn answer_to<S: Shelf>(alloc: Global, words: &[&str], shelf: &mut S) -> Result<Vec<u8>, Halt>
+fn answer_to_words<S: Shelf>(alloc: Global, words: &[&str], shelf: &mut S) -> Result<Vec<u8>, Halt>
     ensures answered { IfOk result (λ text. Answers (map (λ w. w.now) words.now) (S.contents shelf.old) text.items) }
     ensures halted { IfErr result (λ halt. IsWordsHalt halt (request_of (map (λ w. w.now) words.now)) (S.contents shelf.old)) }
     ensures counts { Counts result (S.faults shelf.old) (S.faults shelf.new) }
     ensures same { S.contents shelf.new ≡ S.contents shelf.old }
 {
     match job_of(words) {
-        Some(job) => answer(alloc, &job, shelf),
+        Some(job) => answer_to_job(alloc, &job, shelf),
         None => Err(Halt::Refused(Refusal::Words)),
     }
 }
@@ -126,15 +126,23 @@ pub fn wcet_main<R: Threads + Wait + Sync, S: Shelf, K: Sink, G: Gate + Sync>(
     ensures memory { result ≡ Status.NoMemory → K.written out.new ≡ K.written out.old }
     ensures other { result ≢ Status.Inexact }
 
-    // Where the contents are told and nothing fails outside, an answer that there is is written, if memory serves.
+    // Where the contents are told, nothing fails outside and memory serves, the answer is written if there is one.
     ensures answered { (text : List ℕ) → IsSome (S.contents shelf.old) → Answers (map (λ w. w.now) words.now) (S.contents shelf.old) text
         → ¬ (Rose (S.faults shelf.old) (S.faults shelf.new)) → ¬ (Rose (K.faults out.old) (K.faults out.new))
         → ((result ≡ Status.Whole) × Grew (K.written out.old) (K.written out.new) text) ⊎ result ≡ Status.NoMemory }
 
-    // Where what is refused is refused so, the status is that of the refusal.
+    // Texts that are accepted are answered, where nothing fails outside and memory serves.
+    ensures complete { IsSome (S.contents shelf.old) → Served (map (λ w. w.now) words.now) (S.contents shelf.old)
+        → ¬ (Rose (S.faults shelf.old) (S.faults shelf.new)) → ¬ (Rose (K.faults out.old) (K.faults out.new))
+        → result ≡ Status.Whole ⊎ result ≡ Status.NoMemory }
+
+    // Where a refusal holds of the words and the files, the status is that of the refusal.
     ensures refused { (refusal : Refusal) → IsSome (S.contents shelf.old) → Refused (map (λ w. w.now) words.now) (S.contents shelf.old) refusal
         → ¬ (Rose (S.faults shelf.old) (S.faults shelf.new)) → ¬ (Rose (K.faults out.old) (K.faults out.new))
         → result ≡ status_of refusal ⊎ result ≡ Status.NoMemory }
+
+    // Words are read as a request exactly where they ask for it.
+    ensures asked { (asking : List (List ℕ)) (r : Request) → (request_of asking ≡ Some r) ↔ AskFor asking r }
 
     // No fault is passed over.
     ensures no_read_fault { result ≢ Status.ReadFault → S.faults shelf.new ≡ S.faults shelf.old }
@@ -146,7 +154,8 @@ pub fn wcet_main<R: Threads + Wait + Sync, S: Shelf, K: Sink, G: Gate + Sync>(
 {
     one_unit();
     one_input();
-    match answer_to(alloc, words, shelf) {
+    requests_are_asked();
+    match answer_to_words(alloc, words, shelf) {
         Ok(text) => tell(out, &text),
         Err(Halt::Refused(refusal)) => refuse(alloc, out, &refusal),
         Err(Halt::ReadFault) => Status::ReadFault,

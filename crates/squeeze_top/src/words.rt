@@ -1,6 +1,6 @@
 //! The words of the command line.
 
-ghost use Rattle.std.specs.Prelude.{◌≡◌, map, option_map, option_copied};
+ghost use Rattle.std.specs.Prelude.{◌≡◌, ◌↔◌, List, ℕ, Some, map, option_map, option_copied};
 ghost use Rattle.squeeze_top.specs.Words as spec;
 
 /// What is to be done with a file.
@@ -25,6 +25,12 @@ pub(crate) struct Job<'a> {
     pub(crate) entry: &'a str,
     pub(crate) input: &'a str,
 }
+
+/// Words are read as a request exactly where they ask for it.
+#[tactic(auto, using(crate::proofs::Wording::reads_as_asked))]
+pub(crate) fn requests_are_asked()
+    ensures { (words : List (List ℕ)) (r : spec.Request) → (spec.request_of words ≡ Some r) ↔ spec.AskFor words r }
+{}
 
 /// What the words ask for: `MODE FILE`, and then `--costs NAME`, `--entry NAME` and `--input TEXT`, each of which may be
 /// missing, in this order. No name and no text begins with `-`.

@@ -7,7 +7,7 @@ ghost use Rattle.squeeze_top.specs.Refusing.{HasProgram, HasInput, HasCosts, IsA
 ghost use Rattle.squeeze_top.specs.Halts.{IsFileHalt, IsInputHalt, IsHalt, Counts};
 ghost use Rattle.squeeze_top.specs.Tasks.{IsTaskOf, Suits};
 
-use crate::answer::{Task, answer_of};
+use crate::answer::{Task, text_of_task};
 use crate::planning::plan_of;
 use crate::pricing::costs_of;
 use crate::reading::program_of;
@@ -20,7 +20,11 @@ use std::alloc::Global;
 use wc_outside::{ReadFault, Shelf, read_whole};
 
 /// The answer to a job.
-pub(crate) fn answer<S: Shelf>(alloc: Global, job: &Job, shelf: &mut S) -> Result<Vec<u8>, Halt>
+pub(crate) fn answer_to_job<S: Shelf>(
+    alloc: Global,
+    job: &Job,
+    shelf: &mut S,
+) -> Result<Vec<u8>, Halt>
     ensures answered { IfOk result (λ text. IsAnswered (asked job.now) (S.contents shelf.old) text.items) }
     ensures halted { IfErr result (λ halt. IsHalt halt (asked job.now) (S.contents shelf.old)) }
     ensures counts { Counts result (S.faults shelf.old) (S.faults shelf.new) }
@@ -30,7 +34,7 @@ pub(crate) fn answer<S: Shelf>(alloc: Global, job: &Job, shelf: &mut S) -> Resul
     let task = task_of(alloc, job, &program)?;
     let costs = read_costs(alloc, job, &program, shelf)?;
     let plan = plan_of(alloc, program, costs)?;
-    Ok(answer_of(alloc, &task, &plan)?)
+    Ok(text_of_task(alloc, &task, &plan)?)
 }
 
 // The program that the job's file has.

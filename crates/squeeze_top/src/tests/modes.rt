@@ -3,63 +3,38 @@ use super::*;
 const THRESHOLDS_TABLE: &str =
     "version = 1\ndefault = 1\n[cost]\n\"main:2\" = 50\n\"main:4\" = 40\n";
 
+// Programs, and what is told of their bound where each block costs 1.
+const BOUNDS: &str = "\
+int main(void) { return 0; } ## 0 bound 1@
+int main() { } ## 0 bound 0@
+// The two thresholds: 1 + 1 + 1 + 1 + 1 + 1.
+int main(int x) { int r = 0; if (x > 10) r = 1; if (x < 5) r = 2; return r; } ## 0 bound 6@
+int main(int x) { int r = 0; if (10 < x) r = 1; if (x < 5) r = 2; return r; } ## 0 bound 6@
+int main(int x) { if (x == 0) return 1; else { x = x + 1; x = x - 2; } return x; } ## 0 bound 3@
+// Neighbouring simple statements are one block.
+int main(void) { int a; int b = 1; a = b; ; return a; } ## 0 bound 2@
+// A group stands between two borders of blocks.
+int main(int x) { x = 1; { x = 2; } x = 3; return x; } ## 0 bound 4@
+// Nothing runs behind a `return`.
+int main(int x) { return x; x = 2; return x; } ## 0 bound 1@
+// An `else` belongs to the nearest `if`: 1 + (1 + (1 + 1)).
+int main(int x) { if (x) if (x) return 1; else x = 2; return x; } ## 0 bound 4@
+// A call costs its block and its callee: 1 + 1 + 1 + 1.
+int f(int a) { return a; } int main(void) { int r = f(2); f(r); return r; } ## 0 bound 5@
+// A name is in scope in its own initialiser, and an inner one hides an outer one.
+int main(int x) { int y = y; { int x = y; x = 1; } return x; } ## 0 bound 3@
+// What the edges cost at their caps: 0 + 1 + 11 + 11 + 10 + 1.
+int main(int n) { int i = 0;@#pragma loopbound 10@while (i < n) i++; return i; } ## 0 bound 34@
+// A loop that is not called: 0 + 1.
+void f(int n) {@#pragma loopbound 3@do n--; while (n > 0); } int main(void) { return 0; } ## 0 bound 1@
+";
+
 #[test]
 fn bounds_with_plain_costs(rt: HostRuntime) -> Result<(), Fail> {
-    for (text, line) in [
-        (RETURN_OF_ZERO, "bound 1\n"),
-        ("int main() { }", "bound 0\n"),
-        // The two thresholds: 1 + 1 + 1 + 1 + 1 + 1.
-        (TWO_THRESHOLDS, "bound 6\n"),
-        (
-            "int main(int x) { int r = 0; if (10 < x) r = 1; if (x < 5) r = 2; return r; }",
-            "bound 6\n",
-        ),
-        (
-            "int main(int x) { if (x == 0) return 1; else { x = x + 1; x = x - 2; } return x; }",
-            "bound 3\n",
-        ),
-        // Neighbouring simple statements are one block.
-        (
-            "int main(void) { int a; int b = 1; a = b; ; return a; }",
-            "bound 2\n",
-        ),
-        // A group stands between two borders of blocks.
-        (
-            "int main(int x) { x = 1; { x = 2; } x = 3; return x; }",
-            "bound 4\n",
-        ),
-        // Nothing runs behind a `return`.
-        (
-            "int main(int x) { return x; x = 2; return x; }",
-            "bound 1\n",
-        ),
-        // An `else` belongs to the nearest `if`: 1 + (1 + (1 + 1)).
-        (
-            "int main(int x) { if (x) if (x) return 1; else x = 2; return x; }",
-            "bound 4\n",
-        ),
-        // A call costs its block and its callee: 1 + 1 + 1 + 1.
-        (
-            "int f(int a) { return a; } int main(void) { int r = f(2); f(r); return r; }",
-            "bound 5\n",
-        ),
-        // A name is in scope in its own initialiser, and an inner one hides an outer one.
-        (
-            "int main(int x) { int y = y; { int x = y; x = 1; } return x; }",
-            "bound 3\n",
-        ),
-        // What the edges cost at their caps: 0 + 1 + 11 + 11 + 10 + 1.
-        (
-            "int main(int n) { int i = 0;\n#pragma loopbound 10\nwhile (i < n) i++; return i; }",
-            "bound 34\n",
-        ),
-        // A loop that is not called: 0 + 1.
-        (
-            "void f(int n) {\n#pragma loopbound 3\ndo n--; while (n > 0); } int main(void) { return 0; }",
-            "bound 1\n",
-        ),
-    ] {
-        judged(&rt, &["bound", "f.c"], text, "", 0, line)?;
+    for row in BOUNDS.split('\n') {
+        if let Some((program, line)) = row.split_once(" ## ") {
+            told(&rt, "bound f.c", program, "", line)?;
+        }
     }
     Ok(())
 }
@@ -118,63 +93,44 @@ fn bounds_and_blocks_with_tables(rt: HostRuntime) -> Result<(), Fail> {
     Ok(())
 }
 
+// Tables, and what is told of them for a program with six blocks.
+const TABLES: &str = "\
+version = 2 ## 4 costs Version@
+version 1 ## 4 costs NotToml@
+version = 1@default = 1@costs = 1 ## 4 costs Key costs@
+version = 1@default = 1@[cost]@\"main:9\" = 1@ ## 4 costs Block main:9@
+version = 1@default = true ## 4 costs Number default@
+version = 1@[cost]@\"main:0\" = 1@ ## 4 costs Missing main:1@
+";
+
 #[test]
 fn faults_of_tables(rt: HostRuntime) -> Result<(), Fail> {
-    for (mode, program, table, code, text) in [
-        (
-            "blocks",
-            TWO_THRESHOLDS,
-            "version = 2",
-            4,
-            "costs Version\n",
-        ),
-        ("blocks", TWO_THRESHOLDS, "version 1", 4, "costs NotToml\n"),
-        (
-            "blocks",
-            TWO_THRESHOLDS,
-            "version = 1\ndefault = 1\ncosts = 1",
-            4,
-            "costs Key costs\n",
-        ),
-        (
-            "blocks",
-            TWO_THRESHOLDS,
-            "version = 1\ndefault = 1\n[cost]\n\"main:9\" = 1\n",
-            4,
-            "costs Block main:9\n",
-        ),
-        (
-            "blocks",
-            TWO_THRESHOLDS,
-            "version = 1\ndefault = true",
-            4,
-            "costs Number default\n",
-        ),
-        (
-            "blocks",
-            TWO_THRESHOLDS,
-            "version = 1\n[cost]\n\"main:0\" = 1\n",
-            4,
-            "costs Missing main:1\n",
-        ),
-        // The program is looked at before the table, the table before the loop.
-        (
-            "bound",
-            "int main(void) { return y; }",
-            "",
-            3,
-            "program check NoName at 24\n",
-        ),
-        (
-            "bound",
-            "int main(int n) {\n#pragma loopbound 3\nwhile (n > 0) n--; return n; }",
-            "version = 2",
-            4,
-            "costs Version\n",
-        ),
-    ] {
-        let words = [mode, "f.c", "--costs", "t.toml"];
-        judged(&rt, &words, program, table, code, text)?;
+    for row in TABLES.split('\n') {
+        if let Some((table, line)) = row.split_once(" ## ") {
+            let words = "blocks f.c --costs t.toml";
+            told(&rt, words, TWO_THRESHOLDS, table, line)?;
+        }
+    }
+    Ok(())
+}
+
+// Words, a program, and what is told where the table t.toml has a fault and there is no g.toml: a table is read after the
+// program and its input were taken, and looked at before the loop.
+const ORDER: &str = "\
+bound f.c --costs t.toml ## int main(void) { return y; } ## 3 program check NoName at 24@
+bound f.c --costs t.toml ## int main(int n) {@#pragma loopbound 3@while (n > 0) n--; return n; } ## 4 costs Version@
+bound f.c --costs g.toml ## int main(void) { return y; } ## 3 program check NoName at 24@
+bound f.c --costs g.toml ## ` ## 3 program token Byte at 0@
+run f.c --costs g.toml --input x=05 ## int main(int x) { return x; } ## 2 input refused@
+run f.c --costs g.toml --input x=5 ## int main(int x) { return x; } ## 5 
+";
+
+#[test]
+fn tables_are_read_after_programs_and_inputs(rt: HostRuntime) -> Result<(), Fail> {
+    for row in ORDER.split('\n') {
+        if let Some((words, program, line)) = fields(row) {
+            told(&rt, words, program, "version = 2", line)?;
+        }
     }
     Ok(())
 }
