@@ -257,7 +257,7 @@ impl<'a> Reader<'a> {
     /// The list of a compound statement. Each statement takes a token, so there are enough turns.
     #[cycle(code)]
     #[tactic(auto, using(crate::proofs::Until::until_turns, crate::proofs::StmtTurns::stmt_turns))]
-    pub fn block(&mut self, room: usize) -> Result<Items<RawStmt>, Fault>
+    pub(crate) fn block(&mut self, room: usize) -> Result<Items<RawStmt>, Fault>
         requires { room < 1000 }
         ensures { Reads (λ x. x) (spec.block (spec.statement room Item) self.old) result self.new }
     {

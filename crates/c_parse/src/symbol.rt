@@ -82,7 +82,7 @@ fn mark(spelling: &[u8]) -> Symbol
 }
 
 /// The symbol of a token of this kind with these bytes.
-pub fn symbol_of(kind: Kind, spelling: &[u8]) -> Symbol
+pub(crate) fn symbol_of(kind: Kind, spelling: &[u8]) -> Symbol
     ensures { result ≡ spec.symbol_of kind spelling.now }
 {
     match kind {
@@ -95,7 +95,7 @@ pub fn symbol_of(kind: Kind, spelling: &[u8]) -> Symbol
 }
 
 /// The type and the value of an integer constant; `int` and 0 for any other token.
-pub fn constant_of(kind: Kind) -> (Ty, u32)
+pub(crate) fn constant_of(kind: Kind) -> (Ty, u32)
     ensures ty { result.0 ≡ spec.type_of kind }
     ensures value { (bytes : List ℕ) → spec.symbol_of kind bytes ≡ Symbol.Number → result.1 ≡ spec.value_of kind }
 {
@@ -113,7 +113,7 @@ pub fn constant_of(kind: Kind) -> (Ty, u32)
 }
 
 /// The number of a loop bound; 0 for any other token.
-pub fn bound_of(kind: Kind) -> u64
+pub(crate) fn bound_of(kind: Kind) -> u64
     ensures { (bytes : List ℕ) → spec.symbol_of kind bytes ≡ Symbol.Bound → result ≡ spec.value_of kind }
 {
     match kind {
@@ -125,14 +125,14 @@ pub fn bound_of(kind: Kind) -> u64
 /// How an expression goes on with the next token: not at all, as the condition of a `?`, or as the left operand of a
 /// binary operator.
 #[derive(Clone, Copy, Debug, PartialEq, Eq)]
-pub enum Next {
+pub(crate) enum Next {
     Stop,
     Ask,
     By(BinOp),
 }
 
 /// How an expression goes on with the symbol.
-pub fn next_of(symbol: Option<Symbol>) -> Next
+pub(crate) fn next_of(symbol: Option<Symbol>) -> Next
     ensures { result ≡ reading.next_of symbol }
 {
     match symbol {
@@ -143,7 +143,7 @@ pub fn next_of(symbol: Option<Symbol>) -> Next
 }
 
 /// Whether an expression of the level `least` goes on so.
-pub fn binds(least: u8, next: Next) -> bool
+pub(crate) fn binds(least: u8, next: Next) -> bool
     ensures { result ≡ reading.binds least next }
 {
     match next {
@@ -154,7 +154,7 @@ pub fn binds(least: u8, next: Next) -> bool
 }
 
 /// The unary operator that the symbol is.
-pub fn unary_operator(symbol: Symbol) -> Option<UnOp>
+pub(crate) fn unary_operator(symbol: Symbol) -> Option<UnOp>
     ensures { result ≡ grammar.unary_operator symbol }
 {
     match symbol {
@@ -167,7 +167,7 @@ pub fn unary_operator(symbol: Symbol) -> Option<UnOp>
 }
 
 /// How tightly a binary operator binds.
-pub fn level(operator: BinOp) -> u8
+pub(crate) fn level(operator: BinOp) -> u8
     ensures { result ≡ grammar.level operator }
 {
     match operator {

@@ -251,7 +251,7 @@ impl<'a> Reader<'a> {
 
     /// All tokens. What is declared takes a token, so there are enough turns.
     #[tactic(auto, using(crate::proofs::Until::until_turns))]
-    pub fn whole(&mut self, room: usize) -> Result<Items<RawTop>, Fault>
+    pub(crate) fn whole(&mut self, room: usize) -> Result<Items<RawTop>, Fault>
         requires { room < 999 }
         ensures { Reads (λ x. x) (spec.whole room self.old) result self.new }
     {
