@@ -120,10 +120,10 @@ impl<'a> Reader<'a> {
     }
 
     /// The rest of an assignment to a place.
-    #[tactic(auto, using(crate::proofs::StmtTurns::next_symbol), unfolding(crate::specs::ReadSimple::set))]
-    fn set(&mut self, room: usize, place: RawPlace) -> Result<RawStmt, Fault>
+    #[tactic(auto, using(crate::proofs::StmtTurns::next_symbol), unfolding(crate::specs::ReadSimple::assignment_to))]
+    fn assignment_to(&mut self, room: usize, place: RawPlace) -> Result<RawStmt, Fault>
         requires { room < 999 }
-        ensures { Reads (λ x. x) (spec.set room place self.old) result self.new }
+        ensures { Reads (λ x. x) (spec.assignment_to room place self.old) result self.new }
     {
         match self.peek() {
             Some(Symbol::Assign) => {
@@ -168,7 +168,7 @@ impl<'a> Reader<'a> {
             Some(Symbol::Step(op)) => self.stepped(room, op),
             _ => {
                 let place = self.assigned(room)?;
-                self.set(room, place)
+                self.assignment_to(room, place)
             }
         }
     }
@@ -229,10 +229,10 @@ impl<'a> Reader<'a> {
     }
 
     /// The expression of a `return`, if there is one.
-    #[tactic(auto, unfolding(crate::specs::ReadSimple::answer))]
-    fn answer(&mut self, room: usize) -> Result<Option<RawExpr>, Fault>
+    #[tactic(auto, unfolding(crate::specs::ReadSimple::returned_value))]
+    fn returned_value(&mut self, room: usize) -> Result<Option<RawExpr>, Fault>
         requires { room < 999 }
-        ensures { Reads (λ x. x) (spec.answer room self.old) result self.new }
+        ensures { Reads (λ x. x) (spec.returned_value room self.old) result self.new }
     {
         if self.sees(Symbol::Semicolon) {
             return Ok(None);
@@ -248,7 +248,7 @@ impl<'a> Reader<'a> {
         ensures { Reads (λ x. x) (spec.returned room self.old) result self.new }
     {
         let at = self.expect(Symbol::Return)?;
-        let value = self.answer(room)?;
+        let value = self.returned_value(room)?;
         self.expect(Symbol::Semicolon)?;
         only(self.alloc(), RawStmt::Return(at, value))
     }
