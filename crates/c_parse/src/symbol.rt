@@ -1,6 +1,6 @@
 //! Which word or mark of the grammar a token is.
 
-ghost use Rattle.std.specs.Prelude.{◌≡◌, ℕ, List};
+ghost use Rattle.std.specs.Prelude.{◌≡◌, ◌<◌, ℕ, List, [], ◌∷◌, length};
 ghost use Rattle.c_tree.specs.SpelledExpressions as grammar;
 ghost use Rattle.c_tree.specs.Symbols as spec;
 ghost use Rattle.c_parse.specs.Going as reading;
@@ -34,37 +34,58 @@ fn mark(spelling: &[u8]) -> Symbol
     ensures { result ≡ spec.look_up spec.marks spelling.now }
 {
     match spelling {
-        b"(" => Symbol::LeftParen,
-        b")" => Symbol::RightParen,
-        b"{" => Symbol::LeftBrace,
-        b"}" => Symbol::RightBrace,
-        b"[" => Symbol::LeftBracket,
-        b"]" => Symbol::RightBracket,
-        b";" => Symbol::Semicolon,
-        b"," => Symbol::Comma,
-        b"=" => Symbol::Assign,
-        b"?" => Symbol::Question,
-        b":" => Symbol::Colon,
-        b"~" => Symbol::Tilde,
-        b"!" => Symbol::Exclamation,
+        [] => Symbol::Other,
+        [byte] => short_mark(*byte),
+        _ => long_mark(spelling),
+    }
+}
+
+// The mark of this one byte.
+fn short_mark(byte: u8) -> Symbol
+    ensures { result ≡ spec.look_up spec.marks (byte ∷ []) }
+{
+    match byte {
+        b'(' => Symbol::LeftParen,
+        b')' => Symbol::RightParen,
+        b'{' => Symbol::LeftBrace,
+        b'}' => Symbol::RightBrace,
+        b'[' => Symbol::LeftBracket,
+        b']' => Symbol::RightBracket,
+        b';' => Symbol::Semicolon,
+        b',' => Symbol::Comma,
+        b'=' => Symbol::Assign,
+        b'?' => Symbol::Question,
+        b':' => Symbol::Colon,
+        b'~' => Symbol::Tilde,
+        b'!' => Symbol::Exclamation,
+        b'+' => Symbol::Operator(BinOp::Add),
+        b'-' => Symbol::Operator(BinOp::Sub),
+        b'*' => Symbol::Operator(BinOp::Mul),
+        b'/' => Symbol::Operator(BinOp::Div),
+        b'%' => Symbol::Operator(BinOp::Rem),
+        b'<' => Symbol::Operator(BinOp::Lt),
+        b'>' => Symbol::Operator(BinOp::Gt),
+        b'&' => Symbol::Operator(BinOp::And),
+        b'^' => Symbol::Operator(BinOp::Xor),
+        b'|' => Symbol::Operator(BinOp::Or),
+        _ => Symbol::Other,
+    }
+}
+
+// A mark of two bytes or three.
+fn long_mark(spelling: &[u8]) -> Symbol
+    requires { 1 < length spelling.now }
+    ensures { result ≡ spec.look_up spec.marks spelling.now }
+{
+    match spelling {
         b"++" => Symbol::Step(BinOp::Add),
         b"--" => Symbol::Step(BinOp::Sub),
-        b"+" => Symbol::Operator(BinOp::Add),
-        b"-" => Symbol::Operator(BinOp::Sub),
-        b"*" => Symbol::Operator(BinOp::Mul),
-        b"/" => Symbol::Operator(BinOp::Div),
-        b"%" => Symbol::Operator(BinOp::Rem),
         b"<<" => Symbol::Operator(BinOp::Shl),
         b">>" => Symbol::Operator(BinOp::Shr),
-        b"<" => Symbol::Operator(BinOp::Lt),
-        b">" => Symbol::Operator(BinOp::Gt),
         b"<=" => Symbol::Operator(BinOp::Le),
         b">=" => Symbol::Operator(BinOp::Ge),
         b"==" => Symbol::Operator(BinOp::Eq),
         b"!=" => Symbol::Operator(BinOp::Ne),
-        b"&" => Symbol::Operator(BinOp::And),
-        b"^" => Symbol::Operator(BinOp::Xor),
-        b"|" => Symbol::Operator(BinOp::Or),
         b"&&" => Symbol::Operator(BinOp::Both),
         b"||" => Symbol::Operator(BinOp::Either),
         b"+=" => Symbol::Compound(BinOp::Add),
