@@ -14,7 +14,7 @@ use Rattle.c_tree.specs.SpelledStatements.{Assigned, scalar_place, element_place
 use Rattle.c_tree.specs.Symbols.{Lexeme, spot}
 use Rattle.c_parse.specs.Parser.{Parser, and_then, sees, expect}
 use Rattle.c_parse.specs.ReadExpr.{expr}
-use Rattle.c_parse.specs.ReadSimple.{begins_call, begins_call_into, assigned, set, set_by, stepped, assignment, assignment_by, assign, named}
+use Rattle.c_parse.specs.ReadSimple.{begins_call, begins_call_into, assigned, assignment_to, assignment_to_by, stepped, assignment, assignment_by, assign, named}
 use Rattle.c_parse.specs.ReadStmt.{plain, plain_by}
 use Rattle.c_parse.proofs.Begins.{expr_shorter}
 use Rattle.c_parse.proofs.DeclComplete.{complete_index}
@@ -60,17 +60,17 @@ complete_assigned (element_place {x = x} {b = b} {c = c} {ts = ts} {rest = rest}
     ∙ rw (token-yes s.Name spot x (b ∷ ts) h, sees-yes s.LeftBracket b ts i, complete_index (room - 1) b i d k (omega arith)) refl
 
 module _ (room : ℕ) where
-  set-plain : (p : RawPlace) (q : Lexeme) (u rest : List Lexeme) (a : RawExpr) → q.symbol ≡ s.Assign → expr room 0 u ≡ Ok (a, rest) → set room p (q ∷ u) ≡ Ok (stmt.Assign p None a, rest)
-  unfolding set
-  set-plain p q u rest a h read = ap (λ (m : Symbol). set_by room p (Some m) (q ∷ u)) h ∙ rw read refl
+  assignment_to-plain : (p : RawPlace) (q : Lexeme) (u rest : List Lexeme) (a : RawExpr) → q.symbol ≡ s.Assign → expr room 0 u ≡ Ok (a, rest) → assignment_to room p (q ∷ u) ≡ Ok (stmt.Assign p None a, rest)
+  unfolding assignment_to
+  assignment_to-plain p q u rest a h read = ap (λ (m : Symbol). assignment_to_by room p (Some m) (q ∷ u)) h ∙ rw read refl
 
-  set-compound : (p : RawPlace) (q : Lexeme) (o : BinOp) (u rest : List Lexeme) (a : RawExpr) → q.symbol ≡ s.Compound o → expr room 0 u ≡ Ok (a, rest) → set room p (q ∷ u) ≡ Ok (stmt.Assign p (Some o) a, rest)
-  unfolding set
-  set-compound p q o u rest a h read = ap (λ (m : Symbol). set_by room p (Some m) (q ∷ u)) h ∙ rw read refl
+  assignment_to-compound : (p : RawPlace) (q : Lexeme) (o : BinOp) (u rest : List Lexeme) (a : RawExpr) → q.symbol ≡ s.Compound o → expr room 0 u ≡ Ok (a, rest) → assignment_to room p (q ∷ u) ≡ Ok (stmt.Assign p (Some o) a, rest)
+  unfolding assignment_to
+  assignment_to-compound p q o u rest a h read = ap (λ (m : Symbol). assignment_to_by room p (Some m) (q ∷ u)) h ∙ rw read refl
 
-  set-step : (p : RawPlace) (q : Lexeme) (o : BinOp) (u : List Lexeme) → q.symbol ≡ s.Step o → set room p (q ∷ u) ≡ Ok (stmt.Assign p (Some o) (one q), u)
-  unfolding set
-  set-step p q o u h = ap (λ (m : Symbol). set_by room p (Some m) (q ∷ u)) h
+  assignment_to-step : (p : RawPlace) (q : Lexeme) (o : BinOp) (u : List Lexeme) → q.symbol ≡ s.Step o → assignment_to room p (q ∷ u) ≡ Ok (stmt.Assign p (Some o) (one q), u)
+  unfolding assignment_to
+  assignment_to-step p q o u h = ap (λ (m : Symbol). assignment_to_by room p (Some m) (q ∷ u)) h
 
   stepped-yes : (p : RawPlace) (q : Lexeme) (o : BinOp) (ts rest : List Lexeme) → assigned room ts ≡ Ok (p, rest) → stepped room o (q ∷ ts) ≡ Ok (stmt.Assign p (Some o) (one q), rest)
   unfolding stepped
@@ -81,25 +81,25 @@ module _ (room : ℕ) where
   assignment-is m t ts h = ap (λ (x : Symbol). assignment_by room (Some x) (t ∷ ts)) h
 
   -- one that begins with a place
-  from_place : {ts rest : List Lexeme} {p : RawPlace} → Assigned ts p rest → assignment room ts ≡ and_then (assigned room ts) (set room)
+  from_place : {ts rest : List Lexeme} {p : RawPlace} → Assigned ts p rest → assignment room ts ≡ and_then (assigned room ts) (assignment_to room)
   from_place (scalar_place {x = x} {rest = rest} h) = assignment-is s.Name x rest h
   from_place (element_place {x = x} {b = b} {ts = ts} h i d k) = assignment-is s.Name x (b ∷ ts) h
 
-  then_set : {ts u rest : List Lexeme} {p : RawPlace} {x : RawStmt} → Assigned ts p u → assigned room ts ≡ Ok (p, u) → set room p u ≡ Ok (x, rest) → assignment room ts ≡ Ok (x, rest)
-  then_set {ts} {u} {rest} {p} {x} d read more =
-      let go : and_then (assigned room ts) (set room) ≡ set room p u = rw read refl in
+  then_assignment_to : {ts u rest : List Lexeme} {p : RawPlace} {x : RawStmt} → Assigned ts p u → assigned room ts ≡ Ok (p, u) → assignment_to room p u ≡ Ok (x, rest) → assignment room ts ≡ Ok (x, rest)
+  then_assignment_to {ts} {u} {rest} {p} {x} d read more =
+      let go : and_then (assigned room ts) (assignment_to room) ≡ assignment_to room p u = rw read refl in
       from_place d ∙ go ∙ more
 
   pub complete_assignment : {ts rest : List Lexeme} {x : RawStmt} → Assignment ts x rest → stmt_height x ≤ suc room → Closes rest → assignment room ts ≡ Ok (x, rest)
   complete_assignment (plain_assignment {q = q} {u = u} {rest = rest} {p = p} {a = a} d i e) low end =
       let tall = height-Assign p None a in
-      then_set d (complete_assigned d room (omega arith) (sees-no s.LeftBracket s.Assign q u i refl)) (set-plain p q u rest a i (expr_closed room e end (omega arith)))
+      then_assignment_to d (complete_assigned d room (omega arith) (sees-no s.LeftBracket s.Assign q u i refl)) (assignment_to-plain p q u rest a i (expr_closed room e end (omega arith)))
   complete_assignment (compound_assignment {q = q} {o = o} {u = u} {rest = rest} {p = p} {a = a} d i e) low end =
       let tall = height-Assign p (Some o) a in
-      then_set d (complete_assigned d room (omega arith) (sees-no s.LeftBracket (s.Compound o) q u i refl)) (set-compound p q o u rest a i (expr_closed room e end (omega arith)))
+      then_assignment_to d (complete_assigned d room (omega arith) (sees-no s.LeftBracket (s.Compound o) q u i refl)) (assignment_to-compound p q o u rest a i (expr_closed room e end (omega arith)))
   complete_assignment (step_after {q = q} {o = o} {rest = rest} {p = p} d i) low end =
       let tall = height-Assign p (Some o) (one q) in
-      then_set d (complete_assigned d room (omega arith) (sees-no s.LeftBracket (s.Step o) q rest i refl)) (set-step p q o rest i)
+      then_assignment_to d (complete_assigned d room (omega arith) (sees-no s.LeftBracket (s.Step o) q rest i refl)) (assignment_to-step p q o rest i)
   complete_assignment (step_before {q = q} {o = o} {ts = ts} {rest = rest} {p = p} i d) low end =
       let tall = height-Assign p (Some o) (one q) in
       assignment-is (s.Step o) q ts i ∙ stepped-yes p q o ts rest (complete_assigned d room (omega arith) (closes-no s.LeftBracket refl end))

@@ -14,7 +14,7 @@ use Rattle.c_tree.specs.SpelledStatements.{Assigned, scalar_place, element_place
 use Rattle.c_tree.specs.Symbols.{Lexeme, spot}
 use Rattle.c_parse.specs.Parser.{and_then, first, sees, expect}
 use Rattle.c_parse.specs.ReadExpr.{index, expr}
-use Rattle.c_parse.specs.ReadSimple.{assigned, set, set_by, stepped, assignment, assignment_by, assign as read_assign}
+use Rattle.c_parse.specs.ReadSimple.{assigned, assignment_to, assignment_to_by, stepped, assignment, assignment_by, assign as read_assign}
 use Rattle.c_parse.proofs.DeclSound.{index_sound}
 use Rattle.c_parse.proofs.ExprSound.{Index, brackets}
 use Rattle.c_parse.proofs.ExprClosed.{expr_sound}
@@ -47,12 +47,12 @@ pub record IsStatement (o : Sort) (room : ℕ) (ts : List Lexeme) (xs : List Raw
   pub shut : open_if ≡ true → sees s.Else rest ≡ false
 
 module _ (room : ℕ) where
-  set_sound : (ts u : List Lexeme) (p : RawPlace) → IsPhrase Assigned place_height room ts p u → Sound (IsPhrase Assignment stmt_height (suc room) ts) (set room p u)
-  unfolding set
-  set_sound ts [] p d = tt
-  set_sound ts (q ∷ u) p d = by_symbol q.symbol refl
+  assignment_to_sound : (ts u : List Lexeme) (p : RawPlace) → IsPhrase Assigned place_height room ts p u → Sound (IsPhrase Assignment stmt_height (suc room) ts) (assignment_to room p u)
+  unfolding assignment_to
+  assignment_to_sound ts [] p d = tt
+  assignment_to_sound ts (q ∷ u) p d = by_symbol q.symbol refl
     where
-      by_symbol : (m : Symbol) → q.symbol ≡ m → Sound (IsPhrase Assignment stmt_height (suc room) ts) (set_by room p (Some m) (q ∷ u))
+      by_symbol : (m : Symbol) → q.symbol ≡ m → Sound (IsPhrase Assignment stmt_height (suc room) ts) (assignment_to_by room p (Some m) (q ∷ u))
       by_symbol s.Assign is = bind (IsPhrase (Expression 0) height room u) (IsPhrase Assignment stmt_height (suc room) ts) (expr room 0 u) _ (expr_sound room u)
           (λ a v e. record { spells = plain_assignment d.spells is e.spells; low = omega (arith, height-Assign p None a, d.low, e.low) })
       by_symbol (s.Compound o) is = bind (IsPhrase (Expression 0) height room u) (IsPhrase Assignment stmt_height (suc room) ts) (expr room 0 u) _ (expr_sound room u)
@@ -65,8 +65,8 @@ module _ (room : ℕ) where
   stepped_sound q o ts is = bind (IsPhrase Assigned place_height room ts) (IsPhrase Assignment stmt_height (suc room) (q ∷ ts)) (assigned room ts) _ (assigned_sound room ts)
       (λ p u d. record { spells = step_before is d.spells; low = omega (arith, height-Assign p (Some o) (one q), height-Num q.at ty.Int 1, place_height-pos p, d.low) })
 
-  from_place : (ts : List Lexeme) → Sound (IsPhrase Assignment stmt_height (suc room) ts) (and_then (assigned room ts) (set room))
-  from_place ts = bind (IsPhrase Assigned place_height room ts) (IsPhrase Assignment stmt_height (suc room) ts) (assigned room ts) _ (assigned_sound room ts) (λ p u d. set_sound ts u p d)
+  from_place : (ts : List Lexeme) → Sound (IsPhrase Assignment stmt_height (suc room) ts) (and_then (assigned room ts) (assignment_to room))
+  from_place ts = bind (IsPhrase Assigned place_height room ts) (IsPhrase Assignment stmt_height (suc room) ts) (assigned room ts) _ (assigned_sound room ts) (λ p u d. assignment_to_sound ts u p d)
 
   pub assignment_sound : (ts : List Lexeme) → Sound (IsPhrase Assignment stmt_height (suc room) ts) (assignment room ts)
   unfolding assignment

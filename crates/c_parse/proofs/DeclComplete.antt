@@ -19,7 +19,7 @@ use Rattle.c_tree.specs.Symbols.{Lexeme, spot}
 use Rattle.c_parse.specs.Parser.{and_then, first, sees, sees_second, expect, name, optional, another, another_value, phrases}
 use Rattle.c_parse.specs.ReadExpr.{index, expr}
 use Rattle.c_parse.specs.ReadDecl.{size, values as read_values, filled as read_filled, initialised as read_initialised, shaped, declarator}
-use Rattle.c_parse.specs.ReadSimple.{assigned, set, set_by, stepped, assignment, assignment_by}
+use Rattle.c_parse.specs.ReadSimple.{assigned, assignment_to, assignment_to_by, stepped, assignment, assignment_by}
 use Rattle.c_parse.proofs.Begins.{expr_no, expr_shorter}
 use Rattle.c_parse.proofs.ExprComplete.{index-yes}
 use Rattle.c_parse.proofs.ExprClosed.{expr_closed}

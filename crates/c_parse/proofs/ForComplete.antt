@@ -16,8 +16,8 @@ use Rattle.c_tree.specs.SpelledStatements.{Assigned, scalar_place, element_place
 use Rattle.c_tree.specs.Symbols.{Lexeme, spot}
 use Rattle.c_parse.specs.Parser.{Parser, and_then, first, sees, expect, type_name, begins_type}
 use Rattle.c_parse.specs.ReadExpr.{expr}
-use Rattle.c_parse.specs.ReadSimple.{assignment, answer, returned}
-use Rattle.c_parse.specs.ReadStmt.{condition, counter, setup, initialiser, test, step, loop_bound}
+use Rattle.c_parse.specs.ReadSimple.{assignment, returned_value, returned}
+use Rattle.c_parse.specs.ReadStmt.{condition, for_declaration, setup, initialiser, test, step, loop_bound}
 use Rattle.c_parse.proofs.Begins.{expr_no}
 use Rattle.c_parse.proofs.AssignComplete.{complete_assignment}
 use Rattle.c_parse.proofs.ExprClosed.{expr_closed}
@@ -60,14 +60,14 @@ assignment_no_type {ts} d = no_type (first ts) ts refl (assignment_starts d)
 -- ---- the parts of a `for`
 
 module _ (room : ℕ) where
-  counter-yes : (to : Ty) (x q : Lexeme) (ts u rest : List Lexeme) (a : RawExpr) → type_name ts ≡ Ok (to, x ∷ q ∷ u) → x.symbol ≡ s.Name → q.symbol ≡ s.Assign → expr room 0 u ≡ Ok (a, rest)
-      → counter room ts ≡ Ok (stmt.Declare false to (spot x) (shape.Scalar (Some a)), rest)
-  unfolding counter
-  counter-yes to x q ts u rest a y h i read = rw (y, token-yes s.Name spot x (q ∷ u) h, expect-yes s.Assign q u i, read) refl
+  for_declaration-yes : (to : Ty) (x q : Lexeme) (ts u rest : List Lexeme) (a : RawExpr) → type_name ts ≡ Ok (to, x ∷ q ∷ u) → x.symbol ≡ s.Name → q.symbol ≡ s.Assign → expr room 0 u ≡ Ok (a, rest)
+      → for_declaration room ts ≡ Ok (stmt.Declare false to (spot x) (shape.Scalar (Some a)), rest)
+  unfolding for_declaration
+  for_declaration-yes to x q ts u rest a y h i read = rw (y, token-yes s.Name spot x (q ∷ u) h, expect-yes s.Assign q u i, read) refl
 
-  setup-counter : (ts : List Lexeme) → begins_type ts ≡ true → setup room ts ≡ counter room ts
+  setup-declaration : (ts : List Lexeme) → begins_type ts ≡ true → setup room ts ≡ for_declaration room ts
   unfolding setup
-  setup-counter ts h = rw h refl
+  setup-declaration ts h = rw h refl
 
   setup-assignment : (ts : List Lexeme) → begins_type ts ≡ false → setup room ts ≡ assignment room ts
   unfolding setup
@@ -86,8 +86,8 @@ module _ (room : ℕ) where
   complete_initialiser {c} {ts} {rest} (declaring {x = x} {q = q} {to = to} {u = u} {a = a} y h i d) k low =
       let tall = height-Declare false to (spot x) (shape.Scalar (Some a)) in
       initialiser-is ts (c ∷ rest) (stmt.Declare false to (spot x) (shape.Scalar (Some a))) (type_no s.Semicolon refl y) (omega arith)
-      (setup-counter (room - 1) ts (type_begins y)
-      ∙ counter-yes (room - 1) to x q ts u (c ∷ rest) a (type_yes y (sees-no s.Int s.Name x (q ∷ u) h refl)) h i (expr_closed (room - 1) d (closes-by s.Semicolon c rest k refl) (omega arith)))
+      (setup-declaration (room - 1) ts (type_begins y)
+      ∙ for_declaration-yes (room - 1) to x q ts u (c ∷ rest) a (type_yes y (sees-no s.Int s.Name x (q ∷ u) h refl)) h i (expr_closed (room - 1) d (closes-by s.Semicolon c rest k refl) (omega arith)))
 
   pub complete_test : {c : Lexeme} {ts rest : List Lexeme} {a : RawExpr} → Condition ts a (c ∷ rest) → c.symbol ≡ s.Semicolon → height a ≤ room → test room ts ≡ Ok (a, c ∷ rest)
   complete_test {c} {rest = rest} (no_condition h) k low = test-none room (c ∷ rest) (omega (arith, height-pos (one c))) (sees-yes s.Semicolon c rest h)
@@ -112,24 +112,24 @@ module _ (room : ℕ) where
   pub complete_condition : (p : Lexeme) {c : Lexeme} {ts u : List Lexeme} {a : RawExpr} → p.symbol ≡ s.LeftParen → Expression 0 ts a (c ∷ u) → c.symbol ≡ s.RightParen → height a ≤ room → condition room (p ∷ ts) ≡ Ok (a, u)
   complete_condition p {c} {ts} {u} {a} h d k low = condition-yes p c ts u a h (expr_closed room d (closes-by s.RightParen c u k refl) low) k
 
-  answer-none : (c : Lexeme) (rest : List Lexeme) → c.symbol ≡ s.Semicolon → answer room (c ∷ rest) ≡ Ok (None, c ∷ rest)
-  unfolding answer
-  answer-none c rest h = rw (sees-yes s.Semicolon c rest h) refl
+  returned_value-none : (c : Lexeme) (rest : List Lexeme) → c.symbol ≡ s.Semicolon → returned_value room (c ∷ rest) ≡ Ok (None, c ∷ rest)
+  unfolding returned_value
+  returned_value-none c rest h = rw (sees-yes s.Semicolon c rest h) refl
 
-  answer-some : (ts rest : List Lexeme) (a : RawExpr) → sees s.Semicolon ts ≡ false → expr room 0 ts ≡ Ok (a, rest) → answer room ts ≡ Ok (Some a, rest)
-  unfolding answer
-  answer-some ts rest a h read = rw (h, read) refl
+  returned_value-some : (ts rest : List Lexeme) (a : RawExpr) → sees s.Semicolon ts ≡ false → expr room 0 ts ≡ Ok (a, rest) → returned_value room ts ≡ Ok (Some a, rest)
+  unfolding returned_value
+  returned_value-some ts rest a h read = rw (h, read) refl
 
-  returned-yes : (t c : Lexeme) (ts rest : List Lexeme) (value : Option RawExpr) → t.symbol ≡ s.Return → answer room ts ≡ Ok (value, c ∷ rest) → c.symbol ≡ s.Semicolon → returned room (t ∷ ts) ≡ Ok (stmt.Return t.at value ∷ [], rest)
+  returned-yes : (t c : Lexeme) (ts rest : List Lexeme) (value : Option RawExpr) → t.symbol ≡ s.Return → returned_value room ts ≡ Ok (value, c ∷ rest) → c.symbol ≡ s.Semicolon → returned room (t ∷ ts) ≡ Ok (stmt.Return t.at value ∷ [], rest)
   unfolding returned
   returned-yes t c ts rest value h read k = rw (expect-yes s.Return t ts h, read, expect-yes s.Semicolon c rest k) refl
 
   pub complete_return_nothing : (t c : Lexeme) {rest : List Lexeme} → t.symbol ≡ s.Return → c.symbol ≡ s.Semicolon → returned room (t ∷ c ∷ rest) ≡ Ok (stmt.Return t.at None ∷ [], rest)
-  complete_return_nothing t c {rest} h k = returned-yes t c (c ∷ rest) rest None h (answer-none c rest k) k
+  complete_return_nothing t c {rest} h k = returned-yes t c (c ∷ rest) rest None h (returned_value-none c rest k) k
 
   pub complete_return_value : (t : Lexeme) {c : Lexeme} {ts rest : List Lexeme} {a : RawExpr} → t.symbol ≡ s.Return → Expression 0 ts a (c ∷ rest) → c.symbol ≡ s.Semicolon → height a ≤ room → returned room (t ∷ ts) ≡ Ok (stmt.Return t.at (Some a) ∷ [], rest)
   complete_return_value t {c} {ts} {rest} {a} h d k low =
-      returned-yes t c ts rest (Some a) h (answer-some ts (c ∷ rest) a (expr_no s.Semicolon refl d) (expr_closed room d (closes-by s.Semicolon c rest k refl) low)) k
+      returned-yes t c ts rest (Some a) h (returned_value-some ts (c ∷ rest) a (expr_no s.Semicolon refl d) (expr_closed room d (closes-by s.Semicolon c rest k refl) low)) k
 
 -- ---- the bound of a loop
 

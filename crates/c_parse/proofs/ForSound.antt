@@ -14,8 +14,8 @@ use Rattle.c_tree.specs.SpelledStatements.{Assignment, LoopBound, unbounded, bou
 use Rattle.c_tree.specs.Symbols.{Lexeme, spot}
 use Rattle.c_parse.specs.Parser.{sees, expect, type_name, begins_type}
 use Rattle.c_parse.specs.ReadExpr.{expr}
-use Rattle.c_parse.specs.ReadSimple.{assignment, answer, returned}
-use Rattle.c_parse.specs.ReadStmt.{condition as read_condition, counter, setup, initialiser, test, step as read_step, loop_bound}
+use Rattle.c_parse.specs.ReadSimple.{assignment, returned_value, returned}
+use Rattle.c_parse.specs.ReadStmt.{condition as read_condition, for_declaration, setup, initialiser, test, step as read_step, loop_bound}
 use Rattle.c_parse.proofs.AssignSound.{IsStatement, assignment_sound}
 use Rattle.c_parse.proofs.ExprClosed.{expr_sound}
 use Rattle.c_parse.proofs.Layers.{height-Num, height-Declare, height-Return}
@@ -49,9 +49,9 @@ answered h nothing k = return_nothing h k
 answered h (something d) k = return_value h d k
 
 module _ (room : ℕ) where
-  counter_sound : (ts : List Lexeme) → Sound (IsPhrase Setup stmt_height (suc room) ts) (counter room ts)
-  unfolding counter
-  counter_sound ts = bind (λ to u. TypeName ts to u) (IsPhrase Setup stmt_height (suc room) ts) (type_name ts) _ (type_sound ts)
+  for_declaration_sound : (ts : List Lexeme) → Sound (IsPhrase Setup stmt_height (suc room) ts) (for_declaration room ts)
+  unfolding for_declaration
+  for_declaration_sound ts = bind (λ to u. TypeName ts to u) (IsPhrase Setup stmt_height (suc room) ts) (type_name ts) _ (type_sound ts)
       (λ to u y. step s.Name spot _ (λ v. TypeName ts to v) (λ v. IsPhrase Setup stmt_height (suc room) ts) u y
       (λ x v y h. step s.Assign _ _ (λ w. TypeName ts to (x ∷ w)) (λ w. IsPhrase Setup stmt_height (suc room) ts) v y
       (λ q w y i. bind (IsPhrase (Expression 0) height room w) (IsPhrase Setup stmt_height (suc room) ts) (expr room 0 w) _ (expr_sound room w)
@@ -60,7 +60,7 @@ module _ (room : ℕ) where
   setup_sound : (ts : List Lexeme) → Sound (IsPhrase Setup stmt_height (suc room) ts) (setup room ts)
   unfolding setup
   setup_sound ts = choose (Sound (IsPhrase Setup stmt_height (suc room) ts)) (begins_type ts) _ _
-      (λ g. counter_sound ts)
+      (λ g. for_declaration_sound ts)
       (λ g. weaken (IsPhrase Assignment stmt_height (suc room) ts) (IsPhrase Setup stmt_height (suc room) ts) (assignment room ts) (assignment_sound room ts) (λ x u d. record { spells = setting d.spells; low = d.low }))
 
   pub condition_sound : (ts : List Lexeme) → Sound (IsPhrase Guard height room ts) (read_condition room ts)
@@ -70,9 +70,9 @@ module _ (room : ℕ) where
       (λ a v d. step s.RightParen _ _ (λ w. Expression 0 u a w) (λ w. IsPhrase Guard height room (p ∷ u)) v d.spells
       (λ c w e k. record { spells = guard_of h e k; low = d.low })))
 
-  answer_sound : (ts : List Lexeme) → Sound (IsPhrase Answer option_height room ts) (answer room ts)
-  unfolding answer
-  answer_sound ts = choose (Sound (IsPhrase Answer option_height room ts)) (sees s.Semicolon ts) _ _
+  returned_value_sound : (ts : List Lexeme) → Sound (IsPhrase Answer option_height room ts) (returned_value room ts)
+  unfolding returned_value
+  returned_value_sound ts = choose (Sound (IsPhrase Answer option_height room ts)) (sees s.Semicolon ts) _ _
       (λ g. record { spells = nothing; low = omega arith })
       (λ g. bind (IsPhrase (Expression 0) height room ts) (IsPhrase Answer option_height room ts) (expr room 0 ts) _ (expr_sound room ts)
       (λ a u d. record { spells = something d.spells; low = d.low }))
@@ -80,7 +80,7 @@ module _ (room : ℕ) where
   pub returned_sound : (ts : List Lexeme) → Sound (IsStatement Plain (suc room) ts) (returned room ts)
   unfolding returned
   returned_sound ts = step s.Return _ _ (λ u. Unit {0}) (IsStatement Plain (suc room)) ts tt
-      (λ t u _ h. bind (IsPhrase Answer option_height room u) (IsStatement Plain (suc room) (t ∷ u)) (answer room u) _ (answer_sound u)
+      (λ t u _ h. bind (IsPhrase Answer option_height room u) (IsStatement Plain (suc room) (t ∷ u)) (returned_value room u) _ (returned_value_sound u)
       (λ value v d. step s.Semicolon _ _ (λ w. Answer u value w) (λ w. IsStatement Plain (suc room) (t ∷ u)) v d.spells
       (λ c w e k. record { open_if = false; spells = answered h e k; low = omega (arith, height-Return t.at value, d.low); shut = λ n. cc })))
 

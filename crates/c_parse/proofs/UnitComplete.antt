@@ -20,7 +20,7 @@ use Rattle.c_parse.specs.ReadExpr.{index, expr}
 use Rattle.c_parse.specs.ReadDecl.{declarator}
 use Rattle.c_parse.specs.ReadSimple.{begins_call}
 use Rattle.c_parse.specs.ReadStmt.{until, block, statement}
-use Rattle.c_parse.specs.ReadUnit.{param as read_param, params as read_params, outer_declarator, outers, global as read_global, globals, function as read_function, typed as read_typed, own, top_of}
+use Rattle.c_parse.specs.ReadUnit.{param as read_param, params as read_params, outer_declarator, outers, global as read_global, globals, function as read_function, variables_or_function, after_static, top_of}
 use Rattle.c_parse.specs.Same.{same}
 use Rattle.c_parse.proofs.CallComplete.{declarator_shorter, declarators_no, declarators_no_call, complete_declarators}
 use Rattle.c_parse.proofs.DeclComplete.{another_goes, another-stop, complete_index}
@@ -128,80 +128,80 @@ module _ (room : ℕ) where
   unfolding read_function
   function-yes kept result x p c ts u rest ps xs h i read k body = rw (token-yes s.Name spot x (p ∷ ts) h, expect-yes s.LeftParen p ts i, read, expect-yes s.RightParen c u k, body) refl
 
-  typed-function : (kept : Bool) (to : Ty) (ts u rest : List Lexeme) (xs : List RawTop) → type_name ts ≡ Ok (to, u) → begins_call u ≡ true → read_function room kept (Some to) u ≡ Ok (xs, rest) → read_typed room kept ts ≡ Ok (xs, rest)
-  unfolding read_typed
-  typed-function kept to ts u rest xs y h read = rw (y, h) read
+  function-after_type : (kept : Bool) (to : Ty) (ts u rest : List Lexeme) (xs : List RawTop) → type_name ts ≡ Ok (to, u) → begins_call u ≡ true → read_function room kept (Some to) u ≡ Ok (xs, rest) → variables_or_function room kept ts ≡ Ok (xs, rest)
+  unfolding variables_or_function
+  function-after_type kept to ts u rest xs y h read = rw (y, h) read
 
-  typed-globals : (kept : Bool) (to : Ty) (ts u rest : List Lexeme) (xs : List RawTop) → type_name ts ≡ Ok (to, u) → begins_call u ≡ false → globals room kept false to u ≡ Ok (xs, rest) → read_typed room kept ts ≡ Ok (xs, rest)
-  unfolding read_typed
-  typed-globals kept to ts u rest xs y h read = rw (y, h) read
+  globals-after_type : (kept : Bool) (to : Ty) (ts u rest : List Lexeme) (xs : List RawTop) → type_name ts ≡ Ok (to, u) → begins_call u ≡ false → globals room kept false to u ≡ Ok (xs, rest) → variables_or_function room kept ts ≡ Ok (xs, rest)
+  unfolding variables_or_function
+  globals-after_type kept to ts u rest xs y h read = rw (y, h) read
 
-  own-const : (kept : Bool) (to : Ty) (t : Lexeme) (ts u rest : List Lexeme) (xs : List RawTop) → t.symbol ≡ s.Const → type_name ts ≡ Ok (to, u) → globals room kept true to u ≡ Ok (xs, rest) → own room kept (t ∷ ts) ≡ Ok (xs, rest)
-  unfolding own
-  own-const kept to t ts u rest xs h y read = rw (sees-yes s.Const t ts h, expect-yes s.Const t ts h, y) read
+  after_static-const : (kept : Bool) (to : Ty) (t : Lexeme) (ts u rest : List Lexeme) (xs : List RawTop) → t.symbol ≡ s.Const → type_name ts ≡ Ok (to, u) → globals room kept true to u ≡ Ok (xs, rest) → after_static room kept (t ∷ ts) ≡ Ok (xs, rest)
+  unfolding after_static
+  after_static-const kept to t ts u rest xs h y read = rw (sees-yes s.Const t ts h, expect-yes s.Const t ts h, y) read
 
-  own-void : (kept : Bool) (t : Lexeme) (ts rest : List Lexeme) (xs : List RawTop) → t.symbol ≡ s.Void → read_function room kept None ts ≡ Ok (xs, rest) → own room kept (t ∷ ts) ≡ Ok (xs, rest)
-  unfolding own
-  own-void kept t ts rest xs h read = rw (sees-no s.Const s.Void t ts h refl, sees-yes s.Void t ts h, expect-yes s.Void t ts h) read
+  after_static-void : (kept : Bool) (t : Lexeme) (ts rest : List Lexeme) (xs : List RawTop) → t.symbol ≡ s.Void → read_function room kept None ts ≡ Ok (xs, rest) → after_static room kept (t ∷ ts) ≡ Ok (xs, rest)
+  unfolding after_static
+  after_static-void kept t ts rest xs h read = rw (sees-no s.Const s.Void t ts h refl, sees-yes s.Void t ts h, expect-yes s.Void t ts h) read
 
-  own-typed : (kept : Bool) (ts rest : List Lexeme) (xs : List RawTop) → sees s.Const ts ≡ false → sees s.Void ts ≡ false → read_typed room kept ts ≡ Ok (xs, rest) → own room kept ts ≡ Ok (xs, rest)
-  unfolding own
-  own-typed kept ts rest xs h i read = rw (h, i) read
+  after_static-typed : (kept : Bool) (ts rest : List Lexeme) (xs : List RawTop) → sees s.Const ts ≡ false → sees s.Void ts ≡ false → variables_or_function room kept ts ≡ Ok (xs, rest) → after_static room kept ts ≡ Ok (xs, rest)
+  unfolding after_static
+  after_static-typed kept ts rest xs h i read = rw (h, i) read
 
   top-extern : (t : Lexeme) (ts rest : List Lexeme) (xs : List RawTop) → t.symbol ≡ s.Extern → outers room (t ∷ ts) ≡ Ok (xs, rest) → top_of room (t ∷ ts) ≡ Ok (xs, rest)
   unfolding top_of
   top-extern t ts rest xs h read = rw (sees-yes s.Extern t ts h) read
 
-  top-own : (kept : Bool) (ts u rest : List Lexeme) (xs : List RawTop) → sees s.Extern ts ≡ false → optional s.Static ts ≡ Ok (kept, u) → own room kept u ≡ Ok (xs, rest) → top_of room ts ≡ Ok (xs, rest)
+  top-after_static : (kept : Bool) (ts u rest : List Lexeme) (xs : List RawTop) → sees s.Extern ts ≡ false → optional s.Static ts ≡ Ok (kept, u) → after_static room kept u ≡ Ok (xs, rest) → top_of room ts ≡ Ok (xs, rest)
   unfolding top_of
-  top-own kept ts u rest xs h o read = rw (h, o) read
+  top-after_static kept ts u rest xs h o read = rw (h, o) read
 
 -- ---- how what follows `static` begins
 
-abbrev begins_own : Option Symbol → Bool
-begins_own (Some s.Const) = true
-begins_own (Some s.Void) = true
-begins_own x = is_type x
+abbrev begins_after_static : Option Symbol → Bool
+begins_after_static (Some s.Const) = true
+begins_after_static (Some s.Void) = true
+begins_after_static x = is_type x
 
-type_starts : {ts rest : List Lexeme} {to : Ty} → TypeName ts to rest → begins_own (first ts) ≡ true
+type_starts : {ts rest : List Lexeme} {to : Ty} → TypeName ts to rest → begins_after_static (first ts) ≡ true
 unfolding begins_type
 type_starts {ts} y = by_symbol (first ts) (type_begins y)
   where
-    by_symbol : (x : Option Symbol) → is_type x ≡ true → begins_own x ≡ true
+    by_symbol : (x : Option Symbol) → is_type x ≡ true → begins_after_static x ≡ true
     by_symbol (Some s.Const) h = refl
     by_symbol (Some s.Void) h = refl
     by_symbol _ h = h
 
-constant_starts : {ts u rest : List Lexeme} {b : Bool} {to : Ty} → Optional s.Const ts b u → TypeName u to rest → begins_own (first ts) ≡ true
+constant_starts : {ts u rest : List Lexeme} {b : Bool} {to : Ty} → Optional s.Const ts b u → TypeName u to rest → begins_after_static (first ts) ≡ true
 constant_starts absent y = type_starts y
 constant_starts (present h) y = rw h refl
 
-result_starts : {ts rest : List Lexeme} {result : Option Ty} → Result ts result rest → begins_own (first ts) ≡ true
+result_starts : {ts rest : List Lexeme} {result : Option Ty} → Result ts result rest → begins_after_static (first ts) ≡ true
 result_starts (typed y) = type_starts y
 result_starts (nothing h) = rw h refl
 
-static_no : (m : Symbol) → same s.Static m ≡ false → begins_own (Some m) ≡ false → {ts u : List Lexeme} {b : Bool} → Optional s.Static ts b u → begins_own (first u) ≡ true → sees m ts ≡ false
-static_no m never no_own {ts} absent h = not_seen begins_own m ts no_own h
-static_no m never no_own (present {t = t} {rest = rest} i) h = sees-no m s.Static t rest i never
+static_no : (m : Symbol) → same s.Static m ≡ false → begins_after_static (Some m) ≡ false → {ts u : List Lexeme} {b : Bool} → Optional s.Static ts b u → begins_after_static (first u) ≡ true → sees m ts ≡ false
+static_no m never never_begins {ts} absent h = not_seen begins_after_static m ts never_begins h
+static_no m never never_begins (present {t = t} {rest = rest} i) h = sees-no m s.Static t rest i never
 
 -- ---- a declaration or a function
 
 module _ (room : ℕ) where
-  own_globals : {kept constant : Bool} {to : Ty} {c : Lexeme} {ts u v rest : List Lexeme} {xs : List RawTop} → Optional s.Const ts constant u → TypeName u to v → Separated (Declarator (top.Global kept constant to)) v xs (c ∷ rest)
-      → c.symbol ≡ s.Semicolon → tops_height xs ≤ room → own room kept ts ≡ Ok (xs, rest)
-  own_globals {kept} {to = to} {c = c} {ts} {v = v} {rest = rest} {xs = xs} absent y m k low =
-      own-typed room kept ts rest xs (type_no s.Const refl y) (type_no s.Void refl y)
-      (typed-globals room kept to ts v rest xs (type_yes y (declarators_no (top.Global kept false to) s.Int refl m)) (declarators_no_call (top.Global kept false to) m (closes-by s.Semicolon c rest k refl))
+  after_static_globals : {kept constant : Bool} {to : Ty} {c : Lexeme} {ts u v rest : List Lexeme} {xs : List RawTop} → Optional s.Const ts constant u → TypeName u to v → Separated (Declarator (top.Global kept constant to)) v xs (c ∷ rest)
+      → c.symbol ≡ s.Semicolon → tops_height xs ≤ room → after_static room kept ts ≡ Ok (xs, rest)
+  after_static_globals {kept} {to = to} {c = c} {ts} {v = v} {rest = rest} {xs = xs} absent y m k low =
+      after_static-typed room kept ts rest xs (type_no s.Const refl y) (type_no s.Void refl y)
+      (globals-after_type room kept to ts v rest xs (type_yes y (declarators_no (top.Global kept false to) s.Int refl m)) (declarators_no_call (top.Global kept false to) m (closes-by s.Semicolon c rest k refl))
       (complete_globals room kept false to m k low))
-  own_globals {kept} {to = to} {c = c} {v = v} {rest = rest} {xs = xs} (present {t = t} {rest = us} h) y m k low =
-      own-const room kept to t us v rest xs h (type_yes y (declarators_no (top.Global kept true to) s.Int refl m)) (complete_globals room kept true to m k low)
+  after_static_globals {kept} {to = to} {c = c} {v = v} {rest = rest} {xs = xs} (present {t = t} {rest = us} h) y m k low =
+      after_static-const room kept to t us v rest xs h (type_yes y (declarators_no (top.Global kept true to) s.Int refl m)) (complete_globals room kept true to m k low)
 
-  own_function : (kept : Bool) {result : Option Ty} {x p : Lexeme} {ts v rest : List Lexeme} {xs : List RawTop} → Result ts result (x ∷ p ∷ v) → x.symbol ≡ s.Name → p.symbol ≡ s.LeftParen → read_function room kept result (x ∷ p ∷ v) ≡ Ok (xs, rest)
-      → own room kept ts ≡ Ok (xs, rest)
-  own_function kept {x = x} {p = p} {ts} {v} {rest} {xs} (typed {to = to} y) h i read =
-      own-typed room kept ts rest xs (type_no s.Const refl y) (type_no s.Void refl y)
-      (typed-function room kept to ts (x ∷ p ∷ v) rest xs (type_yes y (sees-no s.Int s.Name x (p ∷ v) h refl)) (call-yes x p v h i) read)
-  own_function kept {x = x} {p = p} {v = v} {rest = rest} {xs = xs} (nothing {t = t} h2) h i read = own-void room kept t (x ∷ p ∷ v) rest xs h2 read
+  after_static_function : (kept : Bool) {result : Option Ty} {x p : Lexeme} {ts v rest : List Lexeme} {xs : List RawTop} → Result ts result (x ∷ p ∷ v) → x.symbol ≡ s.Name → p.symbol ≡ s.LeftParen → read_function room kept result (x ∷ p ∷ v) ≡ Ok (xs, rest)
+      → after_static room kept ts ≡ Ok (xs, rest)
+  after_static_function kept {x = x} {p = p} {ts} {v} {rest} {xs} (typed {to = to} y) h i read =
+      after_static-typed room kept ts rest xs (type_no s.Const refl y) (type_no s.Void refl y)
+      (function-after_type room kept to ts (x ∷ p ∷ v) rest xs (type_yes y (sees-no s.Int s.Name x (p ∷ v) h refl)) (call-yes x p v h i) read)
+  after_static_function kept {x = x} {p = p} {v = v} {rest = rest} {xs = xs} (nothing {t = t} h2) h i read = after_static-void room kept t (x ∷ p ∷ v) rest xs h2 read
 
   pub complete_top : {ts rest : List Lexeme} {xs : List RawTop} → Top ts xs rest → tops_height xs ≤ room → top_of room ts ≡ Ok (xs, rest)
   complete_top (outer {t = t} {c = c} {constant = constant} {to = to} {ts = ts} {u = u} {v = v} {rest = rest} {xs = xs} h o y m k) low =
@@ -210,9 +210,9 @@ module _ (room : ℕ) where
       m (omega (arith, most-tops xs)) (closes-by s.Semicolon c rest k refl) (another-stop (c ∷ rest) (sees-no s.Comma s.Semicolon c rest k refl))) k)
   complete_top (global {kept = kept} {ts = ts} {u = u} {rest = rest} {xs = xs} o q y m k) low =
       let starts = constant_starts q y in
-      top-own room kept ts u rest xs (static_no s.Extern refl refl o starts) (optional_yes o (not_seen begins_own s.Static u refl starts)) (own_globals q y m k low)
+      top-after_static room kept ts u rest xs (static_no s.Extern refl refl o starts) (optional_yes o (not_seen begins_after_static s.Static u refl starts)) (after_static_globals q y m k low)
   complete_top (function {x = x} {p = p} {c = c} {b = b} {d = d} {kept = kept} {result = result} {ts = ts} {u = u} {v = v} {w = w} {rest = rest} {list = list} {xs = xs} o r h i ps k l m z) low =
       let starts = result_starts r in
       let body = block-yes (statement room Item) b d w rest xs l (complete_statements m room (length w) (omega arith) (omega arith) (sees-yes s.RightBrace d rest z)) z in
-      top-own room kept ts u rest _ (static_no s.Extern refl refl o starts) (optional_yes o (not_seen begins_own s.Static u refl starts))
-      (own_function kept r h i (function-yes room kept result x p c v (b ∷ w) rest list xs h i (complete_params c ps k) k body))
+      top-after_static room kept ts u rest _ (static_no s.Extern refl refl o starts) (optional_yes o (not_seen begins_after_static s.Static u refl starts))
+      (after_static_function kept r h i (function-yes room kept result x p c v (b ∷ w) rest list xs h i (complete_params c ps k) k body))

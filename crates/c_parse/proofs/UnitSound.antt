@@ -17,7 +17,7 @@ use Rattle.c_parse.specs.ReadExpr.{index, expr}
 use Rattle.c_parse.specs.ReadDecl.{declarator}
 use Rattle.c_parse.specs.ReadSimple.{begins_call}
 use Rattle.c_parse.specs.ReadStmt.{until, block, statement}
-use Rattle.c_parse.specs.ReadUnit.{param as read_param, params as read_params, outer_declarator, outers, global as read_global, globals, function as read_function, typed as read_typed, own, top_of, is_end, finished, whole}
+use Rattle.c_parse.specs.ReadUnit.{param as read_param, params as read_params, outer_declarator, outers, global as read_global, globals, function as read_function, variables_or_function, after_static, top_of, is_end, finished, whole}
 use Rattle.c_parse.proofs.DeclSound.{index_sound, declarator_sound}
 use Rattle.c_parse.proofs.ExprSound.{Index, brackets}
 use Rattle.c_parse.proofs.Lists.{phrases_sound}
@@ -93,29 +93,29 @@ module _ (room : ℕ) where
       (λ c q d k. bind (IsPhrase Block body_height room q) (IsPhrase Top tops_height room ts) (block (statement room Item) q) _ (block_read room q)
       (λ xs l b. record { spells = function_of o r h i d k b.spells; low = omega (arith, b.low) })))))
 
-  typed_sound : (kept : Bool) (ts u : List Lexeme) → Optional s.Static ts kept u → Sound (IsPhrase Top tops_height room ts) (read_typed room kept u)
-  unfolding read_typed
-  typed_sound kept ts u o = bind (λ to w. TypeName u to w) (IsPhrase Top tops_height room ts) (type_name u) _ (type_sound u)
+  variables_or_function_sound : (kept : Bool) (ts u : List Lexeme) → Optional s.Static ts kept u → Sound (IsPhrase Top tops_height room ts) (variables_or_function room kept u)
+  unfolding variables_or_function
+  variables_or_function_sound kept ts u o = bind (λ to w. TypeName u to w) (IsPhrase Top tops_height room ts) (type_name u) _ (type_sound u)
       (λ to w y. choose (Sound (IsPhrase Top tops_height room ts)) (begins_call w) _ _
       (λ g. function_sound kept (Some to) ts u w o (typed y))
       (λ g. globals_sound kept false to ts u u w o absent y))
 
-  own_sound : (kept : Bool) (ts u : List Lexeme) → Optional s.Static ts kept u → Sound (IsPhrase Top tops_height room ts) (own room kept u)
-  unfolding own
-  own_sound kept ts u o = choose (Sound (IsPhrase Top tops_height room ts)) (sees s.Const u) _ _
+  after_static_sound : (kept : Bool) (ts u : List Lexeme) → Optional s.Static ts kept u → Sound (IsPhrase Top tops_height room ts) (after_static room kept u)
+  unfolding after_static
+  after_static_sound kept ts u o = choose (Sound (IsPhrase Top tops_height room ts)) (sees s.Const u) _ _
       (λ g. step s.Const _ _ (λ v. Optional s.Static ts kept v) (λ v. IsPhrase Top tops_height room ts) u o
       (λ t v o h. bind (λ to w. TypeName v to w) (IsPhrase Top tops_height room ts) (type_name v) _ (type_sound v)
       (λ to w y. globals_sound kept true to ts (t ∷ v) v w o (present h) y)))
       (λ g. choose (Sound (IsPhrase Top tops_height room ts)) (sees s.Void u) _ _
       (λ f. step s.Void _ _ (λ v. Optional s.Static ts kept v) (λ v. IsPhrase Top tops_height room ts) u o
       (λ t v o h. function_sound kept None ts (t ∷ v) v o (nothing h)))
-      (λ f. typed_sound kept ts u o))
+      (λ f. variables_or_function_sound kept ts u o))
 
   top_sound : (ts : List Lexeme) → Sound (IsPhrase Top tops_height room ts) (top_of room ts)
   unfolding top_of
   top_sound ts = choose (Sound (IsPhrase Top tops_height room ts)) (sees s.Extern ts) _ _
       (λ g. outers_sound ts)
-      (λ g. bind (λ b u. Optional s.Static ts b u) (IsPhrase Top tops_height room ts) (optional s.Static ts) _ (optional_sound s.Static ts) (λ kept u o. own_sound kept ts u o))
+      (λ g. bind (λ b u. Optional s.Static ts b u) (IsPhrase Top tops_height room ts) (optional s.Static ts) _ (optional_sound s.Static ts) (λ kept u o. after_static_sound kept ts u o))
 
   -- ---- all tokens
 

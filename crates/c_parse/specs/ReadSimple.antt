@@ -62,15 +62,15 @@ assigned zero = too_deep
 assigned (suc r) = name >>= (λ x ts. if sees s.LeftBracket ts then (do a ← index (expr r); pure (place.Elem x a)) ts else Ok (place.Scalar x, ts))
 
 module _ (room : ℕ) where
-  abbrev pub set_by : RawPlace → Option Symbol → Parser RawStmt
-  set_by p (Some s.Assign) = λ ts. (do a ← expr room 0; pure (stmt.Assign p None a)) (tail ts)
-  set_by p (Some (s.Compound o)) = λ ts. (do a ← expr room 0; pure (stmt.Assign p (Some o) a)) (tail ts)
-  set_by p (Some (s.Step o)) = λ ts. Ok (stmt.Assign p (Some o) (one_at (head ts).at), tail ts)
-  set_by p _ = refuse
+  abbrev pub assignment_to_by : RawPlace → Option Symbol → Parser RawStmt
+  assignment_to_by p (Some s.Assign) = λ ts. (do a ← expr room 0; pure (stmt.Assign p None a)) (tail ts)
+  assignment_to_by p (Some (s.Compound o)) = λ ts. (do a ← expr room 0; pure (stmt.Assign p (Some o) a)) (tail ts)
+  assignment_to_by p (Some (s.Step o)) = λ ts. Ok (stmt.Assign p (Some o) (one_at (head ts).at), tail ts)
+  assignment_to_by p _ = refuse
 
   -- the rest of an assignment to a place
-  unfoldable pub set : RawPlace → Parser RawStmt
-  set p = λ ts. set_by p (first ts) ts
+  unfoldable pub assignment_to : RawPlace → Parser RawStmt
+  assignment_to p = λ ts. assignment_to_by p (first ts) ts
 
   -- `++` or `--`, and a place
   unfoldable pub stepped : BinOp → Parser RawStmt
@@ -78,7 +78,7 @@ module _ (room : ℕ) where
 
   abbrev pub assignment_by : Option Symbol → Parser RawStmt
   assignment_by (Some (s.Step o)) = stepped o
-  assignment_by _ = assigned room >>= set
+  assignment_by _ = assigned room >>= assignment_to
 
   -- an assignment, without its semicolon
   unfoldable pub assignment : Parser RawStmt
@@ -115,12 +115,12 @@ continued = do
   pure (stmt.Continue at ∷ [])
 
 module _ (room : ℕ) where
-  unfoldable pub answer : Parser (Option RawExpr)
-  answer = λ ts. if sees s.Semicolon ts then Ok (None, ts) else (do a ← expr room 0; pure (Some a)) ts
+  unfoldable pub returned_value : Parser (Option RawExpr)
+  returned_value = λ ts. if sees s.Semicolon ts then Ok (None, ts) else (do a ← expr room 0; pure (Some a)) ts
 
   unfoldable pub returned : Parser (List RawStmt)
   returned = do
     at ← expect s.Return
-    value ← answer
+    value ← returned_value
     expect s.Semicolon
     pure (stmt.Return at value ∷ [])

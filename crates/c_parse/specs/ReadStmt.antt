@@ -37,8 +37,8 @@ module _ (room : ℕ) where
     pure a
 
   -- the declaration that begins a `for`
-  unfoldable pub counter : Parser RawStmt
-  counter = do
+  unfoldable pub for_declaration : Parser RawStmt
+  for_declaration = do
     to ← type_name
     x ← name
     expect s.Assign
@@ -46,7 +46,7 @@ module _ (room : ℕ) where
     pure (stmt.Declare false to x (shape.Scalar (Some a)))
 
   unfoldable pub setup : Parser RawStmt
-  setup = λ ts. if begins_type ts then counter ts else assignment room ts
+  setup = λ ts. if begins_type ts then for_declaration ts else assignment room ts
 
 -- ---- the parts of a `for`, up to the height
 

@@ -60,17 +60,17 @@ module _ (room : ℕ) where
     pure (top.Func (record { kept = kept; result = result; spot = x; params = ps; body = xs }) ∷ [])
 
   -- variables or a function that gives a value
-  unfoldable pub typed : Bool → Parser (List RawTop)
-  typed kept = type_name >>= (λ to ts. if begins_call ts then function kept (Some to) ts else globals kept false to ts)
+  unfoldable pub variables_or_function : Bool → Parser (List RawTop)
+  variables_or_function kept = type_name >>= (λ to ts. if begins_call ts then function kept (Some to) ts else globals kept false to ts)
 
   -- what may stand after `static`
-  unfoldable pub own : Bool → Parser (List RawTop)
-  own kept = λ ts. if sees s.Const ts then (do expect s.Const; to ← type_name; globals kept true to) ts
-      else (if sees s.Void ts then (do expect s.Void; function kept None) ts else typed kept ts)
+  unfoldable pub after_static : Bool → Parser (List RawTop)
+  after_static kept = λ ts. if sees s.Const ts then (do expect s.Const; to ← type_name; globals kept true to) ts
+      else (if sees s.Void ts then (do expect s.Void; function kept None) ts else variables_or_function kept ts)
 
   -- a declaration or a function
   unfoldable pub top_of : Parser (List RawTop)
-  top_of = λ ts. if sees s.Extern ts then outers ts else (optional s.Static >>= own) ts
+  top_of = λ ts. if sees s.Extern ts then outers ts else (optional s.Static >>= after_static) ts
 
 -- no token is left
 unfoldable pub is_end : List Lexeme → Bool

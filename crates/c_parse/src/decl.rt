@@ -16,7 +16,7 @@ use sqlite_items::Items;
 impl<'a> Reader<'a> {
     /// Whether a declaration comes next.
     #[tactic(auto, unfolding(crate::specs::ReadDecl::begins_declaration))]
-    pub fn begins_declaration(&self) -> bool
+    pub(crate) fn begins_declaration(&self) -> bool
         ensures { result ≡ spec.begins_declaration self.now }
     {
         self.sees(Symbol::Const) || self.begins_type()
@@ -98,7 +98,7 @@ impl<'a> Reader<'a> {
 
     /// What follows the name of a declarator.
     #[tactic(auto, unfolding(crate::specs::ReadDecl::shaped))]
-    pub fn shaped(&mut self, room: usize) -> Result<RawShape, Fault>
+    pub(crate) fn shaped(&mut self, room: usize) -> Result<RawShape, Fault>
         requires { room < 999 }
         ensures { Reads (λ x. x) (spec.shaped room self.old) result self.new }
     {
@@ -174,7 +174,7 @@ impl<'a> Reader<'a> {
 
     /// A declaration of local variables, or of one that takes the result of a call.
     #[tactic(auto, unfolding(crate::specs::ReadDecl::declaration))]
-    pub fn declaration(&mut self, room: usize) -> Result<Items<RawStmt>, Fault>
+    pub(crate) fn declaration(&mut self, room: usize) -> Result<Items<RawStmt>, Fault>
         requires { room < 999 }
         ensures { Reads (λ x. x) (spec.declaration room self.old) result self.new }
     {

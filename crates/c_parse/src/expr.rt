@@ -122,7 +122,7 @@ impl<'a> Reader<'a> {
     /// An expression of the level `least` or a tighter one.
     #[cycle(expr)]
     #[tactic(auto, using(crate::proofs::Turns::turns))]
-    pub fn expr(&mut self, room: usize, least: u8) -> Result<MeasuredExpr, Fault>
+    pub(crate) fn expr(&mut self, room: usize, least: u8) -> Result<MeasuredExpr, Fault>
         requires { room < 1000 }
         ensures low { IfOk result (λ t. t.height ≤ room) }
         ensures reads { Reads (λ t. t.expr) (spec.expr room least self.old) result self.new }
@@ -259,7 +259,7 @@ impl<'a> Reader<'a> {
     /// The brackets after a name, and what stands in them.
     #[cycle(expr)]
     #[tactic(auto, unfolding(crate::specs::ReadExpr::index))]
-    pub fn index(&mut self, room: usize) -> Result<MeasuredExpr, Fault>
+    pub(crate) fn index(&mut self, room: usize) -> Result<MeasuredExpr, Fault>
         requires { room < 999 }
         ensures low { IfOk result (λ t. t.height ≤ room) }
         ensures reads { Reads (λ t. t.expr) (spec.index (spec.expr room) self.old) result self.new }

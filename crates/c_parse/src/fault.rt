@@ -4,7 +4,7 @@ use std::alloc::AllocError;
 
 /// Why the reader stopped. The number is how many tokens were not taken.
 #[derive(Clone, Copy, Debug, PartialEq, Eq)]
-pub enum Fault {
+pub(crate) enum Fault {
     NoMemory,
     Syntax(usize),
     Depth(usize),

@@ -7,8 +7,8 @@ use c_tree::RawExpr;
 
 /// An expression, with its height.
 #[derive(Drop)]
-pub struct MeasuredExpr {
-    pub expr: RawExpr,
-    pub height: usize,
+pub(crate) struct MeasuredExpr {
+    pub(crate) expr: RawExpr,
+    pub(crate) height: usize,
     ghost exact: { height ≡ of.height expr },
 }

@@ -16,7 +16,7 @@ use std::marker::Model;
 
 /// The tokens that are left to read, with their text. Contracts see what each of them is to the grammar.
 #[derive(Drop)]
-pub struct Reader<'a> {
+pub(crate) struct Reader<'a> {
     alloc: Global,
     text: &'a [u8],
     rest: &'a [Token],
@@ -37,7 +37,7 @@ impl<'a> Model for Reader<'a> {
 
 impl<'a> Reader<'a> {
     /// A reader over the tokens, each of which lies within the text.
-    pub fn new(alloc: Global, text: &'a [u8], rest: &'a [Token]) -> Self
+    pub(crate) fn new(alloc: Global, text: &'a [u8], rest: &'a [Token]) -> Self
         requires { All (IsWithin text.now) rest.now }
         ensures { result ≡ lexemes text.entry.now rest.entry.now }
     {
@@ -45,13 +45,13 @@ impl<'a> Reader<'a> {
     }
 
     /// The allocator for what is read.
-    pub fn alloc(&self) -> Global {
+    pub(crate) fn alloc(&self) -> Global {
         self.alloc
     }
 
     /// How many tokens are left.
     #[tactic(auto, using(crate::proofs::Tokens::front))]
-    pub fn left(&self) -> usize
+    pub(crate) fn left(&self) -> usize
         ensures { result ≡ length self.now }
     {
         self.rest.len()
@@ -59,7 +59,7 @@ impl<'a> Reader<'a> {
 
     /// What the next token is.
     #[tactic(auto, using(crate::proofs::Tokens::front), unfolding(c_tree::specs::Symbols::lexeme))]
-    pub fn peek(&self) -> Option<Symbol>
+    pub(crate) fn peek(&self) -> Option<Symbol>
         ensures { result ≡ spec.first self.now }
     {
         match self.rest {
@@ -87,7 +87,7 @@ impl<'a> Reader<'a> {
 
     /// The place of the next token.
     #[tactic(auto, using(crate::proofs::Tokens::front), unfolding(c_tree::specs::Symbols::lexeme))]
-    pub fn place(&self) -> u32
+    pub(crate) fn place(&self) -> u32
         requires { 0 < length self.now }
         ensures { result ≡ (spec.head self.now).at }
     {
@@ -140,7 +140,7 @@ impl<'a> Reader<'a> {
 
     /// Goes past the next token.
     #[tactic(auto, using(crate::proofs::Tokens::front), unfolding(c_tree::specs::Symbols::lexeme))]
-    pub fn take(&mut self)
+    pub(crate) fn take(&mut self)
         requires { 0 < length self.old }
         ensures { self.new ≡ spec.tail self.old }
     {
@@ -149,7 +149,7 @@ impl<'a> Reader<'a> {
 
     /// Whether the next token is the symbol.
     #[tactic(auto, unfolding(crate::specs::Parser::sees))]
-    pub fn sees(&self, wanted: Symbol) -> bool
+    pub(crate) fn sees(&self, wanted: Symbol) -> bool
         ensures { result ≡ spec.sees wanted self.now }
     {
         match self.peek() {
@@ -160,7 +160,7 @@ impl<'a> Reader<'a> {
 
     /// Whether the token after the next one is the symbol.
     #[tactic(auto, unfolding(crate::specs::Parser::sees_second))]
-    pub fn sees_second(&self, wanted: Symbol) -> bool
+    pub(crate) fn sees_second(&self, wanted: Symbol) -> bool
         ensures { result ≡ spec.sees_second wanted self.now }
     {
         match self.peek_second() {
@@ -170,14 +170,14 @@ impl<'a> Reader<'a> {
     }
 
     /// The fault at the next token.
-    pub fn refuse(&self) -> Fault
+    pub(crate) fn refuse(&self) -> Fault
         ensures { result ≡ Fault.Syntax (length self.now) }
     {
         Fault::Syntax(self.left())
     }
 
     /// The fault where the next token would make the tree too high.
-    pub fn too_deep(&self) -> Fault
+    pub(crate) fn too_deep(&self) -> Fault
         ensures { result ≡ Fault.Depth (length self.now) }
     {
         Fault::Depth(self.left())
@@ -185,7 +185,7 @@ impl<'a> Reader<'a> {
 
     /// Reads the symbol, and gives its place.
     #[tactic(auto, using(crate::proofs::Steps::seeing), unfolding(crate::specs::Parser::token))]
-    pub fn expect(&mut self, wanted: Symbol) -> Result<u32, Fault>
+    pub(crate) fn expect(&mut self, wanted: Symbol) -> Result<u32, Fault>
         ensures { Reads (λ x. x) (spec.expect wanted self.old) result self.new }
     {
         if !self.sees(wanted) {
@@ -198,7 +198,7 @@ impl<'a> Reader<'a> {
 
     /// Reads a name.
     #[tactic(auto, using(crate::proofs::Steps::seeing), unfolding(crate::specs::Parser::token))]
-    pub fn name(&mut self) -> Result<Spot, Fault>
+    pub(crate) fn name(&mut self) -> Result<Spot, Fault>
         ensures { Reads (λ x. x) (spec.name self.old) result self.new }
     {
         if !self.sees(Symbol::Name) {
@@ -211,7 +211,7 @@ impl<'a> Reader<'a> {
 
     /// Reads an integer constant.
     #[tactic(auto, using(crate::proofs::Steps::seeing), unfolding(crate::specs::Parser::token))]
-    pub fn number(&mut self) -> Result<RawExpr, Fault>
+    pub(crate) fn number(&mut self) -> Result<RawExpr, Fault>
         ensures low { IfOk result (λ a. height a ≡ 1) }
         ensures reads { Reads (λ x. x) (spec.number self.old) result self.new }
     {
@@ -225,7 +225,7 @@ impl<'a> Reader<'a> {
 
     /// Reads a loop bound.
     #[tactic(auto, using(crate::proofs::Steps::seeing), unfolding(crate::specs::Parser::token))]
-    pub fn bound(&mut self) -> Result<RawBound, Fault>
+    pub(crate) fn bound(&mut self) -> Result<RawBound, Fault>
         ensures { Reads (λ x. x) (spec.bound self.old) result self.new }
     {
         if !self.sees(Symbol::Bound) {
@@ -238,7 +238,7 @@ impl<'a> Reader<'a> {
 
     /// Reads the symbol if it comes next, and tells whether it did.
     #[tactic(auto, using(crate::proofs::Steps::seeing), unfolding(crate::specs::Parser::optional))]
-    pub fn optional(&mut self, word: Symbol) -> bool
+    pub(crate) fn optional(&mut self, word: Symbol) -> bool
         ensures { spec.optional word self.old ≡ Ok (result, self.new) }
     {
         if !self.sees(word) {
@@ -250,7 +250,7 @@ impl<'a> Reader<'a> {
 
     /// Whether the name of a type comes next.
     #[tactic(auto, unfolding(crate::specs::Parser::begins_type))]
-    pub fn begins_type(&self) -> bool
+    pub(crate) fn begins_type(&self) -> bool
         ensures { result ≡ spec.begins_type self.now }
     {
         matches!(
@@ -271,7 +271,7 @@ impl<'a> Reader<'a> {
 
     /// Reads the name of a type.
     #[tactic(auto, unfolding(crate::specs::Parser::type_name))]
-    pub fn type_name(&mut self) -> Result<Ty, Fault>
+    pub(crate) fn type_name(&mut self) -> Result<Ty, Fault>
         ensures { Reads (λ x. x) (spec.type_name self.old) result self.new }
     {
         match self.peek() {
@@ -287,7 +287,7 @@ impl<'a> Reader<'a> {
 
     /// How an expression goes on with the next token.
     #[tactic(auto, unfolding(crate::specs::Going::next))]
-    pub fn next(&self) -> Next
+    pub(crate) fn next(&self) -> Next
         ensures { result ≡ reading.next self.now }
     {
         next_of(self.peek())
@@ -295,7 +295,7 @@ impl<'a> Reader<'a> {
 
     /// Whether a further phrase comes, in a list of phrases with commas.
     #[tactic(auto, unfolding(crate::specs::Parser::another))]
-    pub fn another(&self) -> bool
+    pub(crate) fn another(&self) -> bool
         ensures { result ≡ spec.another self.now }
     {
         self.sees(Symbol::Comma)
@@ -303,7 +303,7 @@ impl<'a> Reader<'a> {
 
     /// Whether a further value comes, in a list that may end with a comma.
     #[tactic(auto, unfolding(crate::specs::Parser::another_value))]
-    pub fn another_value(&self) -> bool
+    pub(crate) fn another_value(&self) -> bool
         ensures { result ≡ spec.another_value self.now }
     {
         self.sees(Symbol::Comma) && !self.sees_second(Symbol::RightBrace)
@@ -313,7 +313,7 @@ impl<'a> Reader<'a> {
 impl<'a> Reader<'a> {
     /// The reader past the next two tokens.
     #[tactic(auto, using(crate::proofs::StmtTurns::next_symbol))]
-    pub fn past_two(&self) -> Reader<'a>
+    pub(crate) fn past_two(&self) -> Reader<'a>
         requires { 1 < length self.now }
         ensures { result ≡ spec.tail (spec.tail self.now) }
     {

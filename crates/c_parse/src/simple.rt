@@ -15,7 +15,7 @@ use sqlite_items::Items;
 use std::alloc::Global;
 
 /// The list of this one statement.
-pub fn only(alloc: Global, stmt: RawStmt) -> Result<Items<RawStmt>, Fault>
+pub(crate) fn only(alloc: Global, stmt: RawStmt) -> Result<Items<RawStmt>, Fault>
     ensures { Reads (λ x. x) (Ok (stmt ∷ [], [])) result [] }
 {
     let mut list = Items::new(alloc);
@@ -24,7 +24,7 @@ pub fn only(alloc: Global, stmt: RawStmt) -> Result<Items<RawStmt>, Fault>
 }
 
 /// The 1 of `++` and `--`, and of a missing condition.
-pub fn one(at: u32) -> RawExpr
+pub(crate) fn one(at: u32) -> RawExpr
     ensures { result ≡ spec.one_at at }
 {
     RawExpr::Num(at, Ty::Int, 1)
@@ -33,7 +33,7 @@ pub fn one(at: u32) -> RawExpr
 impl<'a> Reader<'a> {
     /// Whether a call comes next.
     #[tactic(auto, unfolding(crate::specs::ReadSimple::begins_call))]
-    pub fn begins_call(&self) -> bool
+    pub(crate) fn begins_call(&self) -> bool
         ensures { result ≡ spec.begins_call self.now }
     {
         self.sees(Symbol::Name) && self.sees_second(Symbol::LeftParen)
@@ -41,7 +41,7 @@ impl<'a> Reader<'a> {
 
     /// Whether a name comes next to which the result of a call is assigned.
     #[tactic(auto, using(crate::proofs::StmtTurns::next_symbol), unfolding(crate::specs::ReadSimple::begins_call_into))]
-    pub fn begins_call_into(&self) -> bool
+    pub(crate) fn begins_call_into(&self) -> bool
         ensures { result ≡ spec.begins_call_into self.now }
     {
         self.sees(Symbol::Name) && self.sees_second(Symbol::Assign) && self.past_two().begins_call()
@@ -79,7 +79,7 @@ impl<'a> Reader<'a> {
 
     /// A call whose result goes to `to`, with its semicolon.
     #[tactic(auto, unfolding(crate::specs::ReadSimple::called))]
-    pub fn called(&mut self, room: usize, to: RawTarget) -> Result<Items<RawStmt>, Fault>
+    pub(crate) fn called(&mut self, room: usize, to: RawTarget) -> Result<Items<RawStmt>, Fault>
         requires { room < 999 }
         ensures { Reads (λ x. x) (spec.called room to self.old) result self.new }
     {
@@ -120,10 +120,10 @@ impl<'a> Reader<'a> {
     }
 
     /// The rest of an assignment to a place.
-    #[tactic(auto, using(crate::proofs::StmtTurns::next_symbol), unfolding(crate::specs::ReadSimple::set))]
-    fn set(&mut self, room: usize, place: RawPlace) -> Result<RawStmt, Fault>
+    #[tactic(auto, using(crate::proofs::StmtTurns::next_symbol), unfolding(crate::specs::ReadSimple::assignment_to))]
+    fn assignment_to(&mut self, room: usize, place: RawPlace) -> Result<RawStmt, Fault>
         requires { room < 999 }
-        ensures { Reads (λ x. x) (spec.set room place self.old) result self.new }
+        ensures { Reads (λ x. x) (spec.assignment_to room place self.old) result self.new }
     {
         match self.peek() {
             Some(Symbol::Assign) => {
@@ -160,7 +160,7 @@ impl<'a> Reader<'a> {
 
     /// An assignment, without its semicolon.
     #[tactic(auto, using(crate::proofs::StmtTurns::next_symbol), unfolding(crate::specs::ReadSimple::assignment))]
-    pub fn assignment(&mut self, room: usize) -> Result<RawStmt, Fault>
+    pub(crate) fn assignment(&mut self, room: usize) -> Result<RawStmt, Fault>
         requires { room < 999 }
         ensures { Reads (λ x. x) (spec.assignment room self.old) result self.new }
     {
@@ -168,14 +168,14 @@ impl<'a> Reader<'a> {
             Some(Symbol::Step(op)) => self.stepped(room, op),
             _ => {
                 let place = self.assigned(room)?;
-                self.set(room, place)
+                self.assignment_to(room, place)
             }
         }
     }
 
     /// An assignment, with its semicolon.
     #[tactic(auto, unfolding(crate::specs::ReadSimple::assign))]
-    pub fn assign(&mut self, room: usize) -> Result<Items<RawStmt>, Fault>
+    pub(crate) fn assign(&mut self, room: usize) -> Result<Items<RawStmt>, Fault>
         requires { room < 999 }
         ensures { Reads (λ x. x) (spec.assign room self.old) result self.new }
     {
@@ -186,7 +186,7 @@ impl<'a> Reader<'a> {
 
     /// What begins with a name: a call or an assignment.
     #[tactic(auto, unfolding(crate::specs::ReadSimple::named))]
-    pub fn named(&mut self, room: usize) -> Result<Items<RawStmt>, Fault>
+    pub(crate) fn named(&mut self, room: usize) -> Result<Items<RawStmt>, Fault>
         requires { room < 999 }
         ensures { Reads (λ x. x) (spec.named room self.old) result self.new }
     {
@@ -201,7 +201,7 @@ impl<'a> Reader<'a> {
 
     /// The empty statement.
     #[tactic(auto, unfolding(crate::specs::ReadSimple::empty))]
-    pub fn empty(&mut self) -> Result<Items<RawStmt>, Fault>
+    pub(crate) fn empty(&mut self) -> Result<Items<RawStmt>, Fault>
         ensures { Reads (λ x. x) (spec.empty self.old) result self.new }
     {
         self.expect(Symbol::Semicolon)?;
@@ -210,7 +210,7 @@ impl<'a> Reader<'a> {
 
     /// A `break`, with its semicolon.
     #[tactic(auto, unfolding(crate::specs::ReadSimple::broken))]
-    pub fn broken(&mut self) -> Result<Items<RawStmt>, Fault>
+    pub(crate) fn broken(&mut self) -> Result<Items<RawStmt>, Fault>
         ensures { Reads (λ x. x) (spec.broken self.old) result self.new }
     {
         let at = self.expect(Symbol::Break)?;
@@ -220,7 +220,7 @@ impl<'a> Reader<'a> {
 
     /// A `continue`, with its semicolon.
     #[tactic(auto, unfolding(crate::specs::ReadSimple::continued))]
-    pub fn continued(&mut self) -> Result<Items<RawStmt>, Fault>
+    pub(crate) fn continued(&mut self) -> Result<Items<RawStmt>, Fault>
         ensures { Reads (λ x. x) (spec.continued self.old) result self.new }
     {
         let at = self.expect(Symbol::Continue)?;
@@ -229,10 +229,10 @@ impl<'a> Reader<'a> {
     }
 
     /// The expression of a `return`, if there is one.
-    #[tactic(auto, unfolding(crate::specs::ReadSimple::answer))]
-    fn answer(&mut self, room: usize) -> Result<Option<RawExpr>, Fault>
+    #[tactic(auto, unfolding(crate::specs::ReadSimple::returned_value))]
+    fn returned_value(&mut self, room: usize) -> Result<Option<RawExpr>, Fault>
         requires { room < 999 }
-        ensures { Reads (λ x. x) (spec.answer room self.old) result self.new }
+        ensures { Reads (λ x. x) (spec.returned_value room self.old) result self.new }
     {
         if self.sees(Symbol::Semicolon) {
             return Ok(None);
@@ -243,12 +243,12 @@ impl<'a> Reader<'a> {
 
     /// A `return`, with its semicolon.
     #[tactic(auto, unfolding(crate::specs::ReadSimple::returned))]
-    pub fn returned(&mut self, room: usize) -> Result<Items<RawStmt>, Fault>
+    pub(crate) fn returned(&mut self, room: usize) -> Result<Items<RawStmt>, Fault>
         requires { room < 999 }
         ensures { Reads (λ x. x) (spec.returned room self.old) result self.new }
     {
         let at = self.expect(Symbol::Return)?;
-        let value = self.answer(room)?;
+        let value = self.returned_value(room)?;
         self.expect(Symbol::Semicolon)?;
         only(self.alloc(), RawStmt::Return(at, value))
     }

@@ -34,10 +34,10 @@ impl<'a> Reader<'a> {
     }
 
     /// The declaration that begins a `for`.
-    #[tactic(auto, unfolding(crate::specs::ReadStmt::counter))]
-    fn counter(&mut self, room: usize) -> Result<RawStmt, Fault>
+    #[tactic(auto, unfolding(crate::specs::ReadStmt::for_declaration))]
+    fn for_declaration(&mut self, room: usize) -> Result<RawStmt, Fault>
         requires { room < 999 }
-        ensures { Reads (λ x. x) (spec.counter room self.old) result self.new }
+        ensures { Reads (λ x. x) (spec.for_declaration room self.old) result self.new }
     {
         let ty = self.type_name()?;
         let spot = self.name()?;
@@ -52,7 +52,7 @@ impl<'a> Reader<'a> {
         ensures { Reads (λ x. x) (spec.setup room self.old) result self.new }
     {
         if self.begins_type() {
-            self.counter(room)
+            self.for_declaration(room)
         } else {
             self.assignment(room)
         }
@@ -257,7 +257,7 @@ impl<'a> Reader<'a> {
     /// The list of a compound statement. Each statement takes a token, so there are enough turns.
     #[cycle(code)]
     #[tactic(auto, using(crate::proofs::Until::until_turns, crate::proofs::StmtTurns::stmt_turns))]
-    pub fn block(&mut self, room: usize) -> Result<Items<RawStmt>, Fault>
+    pub(crate) fn block(&mut self, room: usize) -> Result<Items<RawStmt>, Fault>
         requires { room < 1000 }
         ensures { Reads (λ x. x) (spec.block (spec.statement room Item) self.old) result self.new }
     {

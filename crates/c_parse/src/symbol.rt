@@ -1,6 +1,6 @@
 //! Which word or mark of the grammar a token is.
 
-ghost use Rattle.std.specs.Prelude.{◌≡◌, ℕ, List};
+ghost use Rattle.std.specs.Prelude.{◌≡◌, ◌<◌, ℕ, List, [], ◌∷◌, length};
 ghost use Rattle.c_tree.specs.SpelledExpressions as grammar;
 ghost use Rattle.c_tree.specs.Symbols as spec;
 ghost use Rattle.c_parse.specs.Going as reading;
@@ -34,37 +34,58 @@ fn mark(spelling: &[u8]) -> Symbol
     ensures { result ≡ spec.look_up spec.marks spelling.now }
 {
     match spelling {
-        b"(" => Symbol::LeftParen,
-        b")" => Symbol::RightParen,
-        b"{" => Symbol::LeftBrace,
-        b"}" => Symbol::RightBrace,
-        b"[" => Symbol::LeftBracket,
-        b"]" => Symbol::RightBracket,
-        b";" => Symbol::Semicolon,
-        b"," => Symbol::Comma,
-        b"=" => Symbol::Assign,
-        b"?" => Symbol::Question,
-        b":" => Symbol::Colon,
-        b"~" => Symbol::Tilde,
-        b"!" => Symbol::Exclamation,
+        [] => Symbol::Other,
+        [byte] => short_mark(*byte),
+        _ => long_mark(spelling),
+    }
+}
+
+// The mark of this one byte.
+fn short_mark(byte: u8) -> Symbol
+    ensures { result ≡ spec.look_up spec.marks (byte ∷ []) }
+{
+    match byte {
+        b'(' => Symbol::LeftParen,
+        b')' => Symbol::RightParen,
+        b'{' => Symbol::LeftBrace,
+        b'}' => Symbol::RightBrace,
+        b'[' => Symbol::LeftBracket,
+        b']' => Symbol::RightBracket,
+        b';' => Symbol::Semicolon,
+        b',' => Symbol::Comma,
+        b'=' => Symbol::Assign,
+        b'?' => Symbol::Question,
+        b':' => Symbol::Colon,
+        b'~' => Symbol::Tilde,
+        b'!' => Symbol::Exclamation,
+        b'+' => Symbol::Operator(BinOp::Add),
+        b'-' => Symbol::Operator(BinOp::Sub),
+        b'*' => Symbol::Operator(BinOp::Mul),
+        b'/' => Symbol::Operator(BinOp::Div),
+        b'%' => Symbol::Operator(BinOp::Rem),
+        b'<' => Symbol::Operator(BinOp::Lt),
+        b'>' => Symbol::Operator(BinOp::Gt),
+        b'&' => Symbol::Operator(BinOp::And),
+        b'^' => Symbol::Operator(BinOp::Xor),
+        b'|' => Symbol::Operator(BinOp::Or),
+        _ => Symbol::Other,
+    }
+}
+
+// A mark of two bytes or three.
+fn long_mark(spelling: &[u8]) -> Symbol
+    requires { 1 < length spelling.now }
+    ensures { result ≡ spec.look_up spec.marks spelling.now }
+{
+    match spelling {
         b"++" => Symbol::Step(BinOp::Add),
         b"--" => Symbol::Step(BinOp::Sub),
-        b"+" => Symbol::Operator(BinOp::Add),
-        b"-" => Symbol::Operator(BinOp::Sub),
-        b"*" => Symbol::Operator(BinOp::Mul),
-        b"/" => Symbol::Operator(BinOp::Div),
-        b"%" => Symbol::Operator(BinOp::Rem),
         b"<<" => Symbol::Operator(BinOp::Shl),
         b">>" => Symbol::Operator(BinOp::Shr),
-        b"<" => Symbol::Operator(BinOp::Lt),
-        b">" => Symbol::Operator(BinOp::Gt),
         b"<=" => Symbol::Operator(BinOp::Le),
         b">=" => Symbol::Operator(BinOp::Ge),
         b"==" => Symbol::Operator(BinOp::Eq),
         b"!=" => Symbol::Operator(BinOp::Ne),
-        b"&" => Symbol::Operator(BinOp::And),
-        b"^" => Symbol::Operator(BinOp::Xor),
-        b"|" => Symbol::Operator(BinOp::Or),
         b"&&" => Symbol::Operator(BinOp::Both),
         b"||" => Symbol::Operator(BinOp::Either),
         b"+=" => Symbol::Compound(BinOp::Add),
@@ -82,7 +103,7 @@ fn mark(spelling: &[u8]) -> Symbol
 }
 
 /// The symbol of a token of this kind with these bytes.
-pub fn symbol_of(kind: Kind, spelling: &[u8]) -> Symbol
+pub(crate) fn symbol_of(kind: Kind, spelling: &[u8]) -> Symbol
     ensures { result ≡ spec.symbol_of kind spelling.now }
 {
     match kind {
@@ -95,7 +116,7 @@ pub fn symbol_of(kind: Kind, spelling: &[u8]) -> Symbol
 }
 
 /// The type and the value of an integer constant; `int` and 0 for any other token.
-pub fn constant_of(kind: Kind) -> (Ty, u32)
+pub(crate) fn constant_of(kind: Kind) -> (Ty, u32)
     ensures ty { result.0 ≡ spec.type_of kind }
     ensures value { (bytes : List ℕ) → spec.symbol_of kind bytes ≡ Symbol.Number → result.1 ≡ spec.value_of kind }
 {
@@ -113,7 +134,7 @@ pub fn constant_of(kind: Kind) -> (Ty, u32)
 }
 
 /// The number of a loop bound; 0 for any other token.
-pub fn bound_of(kind: Kind) -> u64
+pub(crate) fn bound_of(kind: Kind) -> u64
     ensures { (bytes : List ℕ) → spec.symbol_of kind bytes ≡ Symbol.Bound → result ≡ spec.value_of kind }
 {
     match kind {
@@ -125,14 +146,14 @@ pub fn bound_of(kind: Kind) -> u64
 /// How an expression goes on with the next token: not at all, as the condition of a `?`, or as the left operand of a
 /// binary operator.
 #[derive(Clone, Copy, Debug, PartialEq, Eq)]
-pub enum Next {
+pub(crate) enum Next {
     Stop,
     Ask,
     By(BinOp),
 }
 
 /// How an expression goes on with the symbol.
-pub fn next_of(symbol: Option<Symbol>) -> Next
+pub(crate) fn next_of(symbol: Option<Symbol>) -> Next
     ensures { result ≡ reading.next_of symbol }
 {
     match symbol {
@@ -143,7 +164,7 @@ pub fn next_of(symbol: Option<Symbol>) -> Next
 }
 
 /// Whether an expression of the level `least` goes on so.
-pub fn binds(least: u8, next: Next) -> bool
+pub(crate) fn binds(least: u8, next: Next) -> bool
     ensures { result ≡ reading.binds least next }
 {
     match next {
@@ -154,7 +175,7 @@ pub fn binds(least: u8, next: Next) -> bool
 }
 
 /// The unary operator that the symbol is.
-pub fn unary_operator(symbol: Symbol) -> Option<UnOp>
+pub(crate) fn unary_operator(symbol: Symbol) -> Option<UnOp>
     ensures { result ≡ grammar.unary_operator symbol }
 {
     match symbol {
@@ -167,7 +188,7 @@ pub fn unary_operator(symbol: Symbol) -> Option<UnOp>
 }
 
 /// How tightly a binary operator binds.
-pub fn level(operator: BinOp) -> u8
+pub(crate) fn level(operator: BinOp) -> u8
     ensures { result ≡ grammar.level operator }
 {
     match operator {

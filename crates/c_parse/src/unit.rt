@@ -184,10 +184,10 @@ impl<'a> Reader<'a> {
     }
 
     /// Variables, or a function that gives a value.
-    #[tactic(auto, unfolding(crate::specs::ReadUnit::typed))]
-    fn typed(&mut self, room: usize, kept: bool) -> Result<Items<RawTop>, Fault>
+    #[tactic(auto, unfolding(crate::specs::ReadUnit::variables_or_function))]
+    fn variables_or_function(&mut self, room: usize, kept: bool) -> Result<Items<RawTop>, Fault>
         requires { room < 999 }
-        ensures { Reads (λ x. x) (spec.typed room kept self.old) result self.new }
+        ensures { Reads (λ x. x) (spec.variables_or_function room kept self.old) result self.new }
     {
         let ty = self.type_name()?;
         if self.begins_call() {
@@ -198,10 +198,10 @@ impl<'a> Reader<'a> {
     }
 
     /// What may stand after `static`.
-    #[tactic(auto, unfolding(crate::specs::ReadUnit::own))]
-    fn own(&mut self, room: usize, kept: bool) -> Result<Items<RawTop>, Fault>
+    #[tactic(auto, unfolding(crate::specs::ReadUnit::after_static))]
+    fn after_static(&mut self, room: usize, kept: bool) -> Result<Items<RawTop>, Fault>
         requires { room < 999 }
-        ensures { Reads (λ x. x) (spec.own room kept self.old) result self.new }
+        ensures { Reads (λ x. x) (spec.after_static room kept self.old) result self.new }
     {
         if self.sees(Symbol::Const) {
             self.expect(Symbol::Const)?;
@@ -212,7 +212,7 @@ impl<'a> Reader<'a> {
             self.expect(Symbol::Void)?;
             return self.function(room, kept, None);
         }
-        self.typed(room, kept)
+        self.variables_or_function(room, kept)
     }
 
     /// A declaration or a function.
@@ -225,7 +225,7 @@ impl<'a> Reader<'a> {
             return self.outers(room);
         }
         let kept = self.optional(Symbol::Static);
-        self.own(room, kept)
+        self.after_static(room, kept)
     }
 
     /// Whether no token is left.
@@ -251,7 +251,7 @@ impl<'a> Reader<'a> {
 
     /// All tokens. What is declared takes a token, so there are enough turns.
     #[tactic(auto, using(crate::proofs::Until::until_turns))]
-    pub fn whole(&mut self, room: usize) -> Result<Items<RawTop>, Fault>
+    pub(crate) fn whole(&mut self, room: usize) -> Result<Items<RawTop>, Fault>
         requires { room < 999 }
         ensures { Reads (λ x. x) (spec.whole room self.old) result self.new }
     {
