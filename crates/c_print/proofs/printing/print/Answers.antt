@@ -15,4 +15,4 @@ pub returns-clause-read : goal.returns-clause-read
 returns-clause-read c =
     let i = c.program_is_typed.ensures in
     of_the_text (λ t. t.items) (λ t. (entry : List ℕ) × IsReadAs t entry c.args.program.now) c.printed.result _ c.printed.ensures
-      (i.entry, c.printed_programs_are_read_again.ensures i.unit i.entry c.args.program.now i.spelled i.typed)
+    (i.entry, c.printed_programs_are_read_again.ensures i.unit i.entry c.args.program.now i.spelled i.typed)
