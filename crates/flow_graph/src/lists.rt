@@ -1,6 +1,6 @@
 //! Lists of edges: whether they follow one another, whether they keep the bounds of loops, and what they cost.
 
-ghost use Rattle.std.specs.Prelude.{◌≡◌, ◌&&◌, nat_lt, slice_get};
+ghost use Rattle.std.specs.Prelude.{◌≡◌, ◌<◌, ◌^◌, ◌&&◌, nat_lt, slice_get};
 ghost use Rattle.std.specs.List.{list_all};
 ghost use Rattle.c_tree.specs.Claims.{block_cost};
 ghost use Rattle.flow_laws.specs.Paths.{follows, is_among, keeps, keeps_each, most_turns};
