@@ -3,7 +3,7 @@
 ghost use Rattle.std.specs.Prelude.{◌≡◌, ◌<◌, ◌^◌, ◌&&◌, nat_lt, slice_get};
 ghost use Rattle.std.specs.List.{list_all};
 ghost use Rattle.c_tree.specs.Claims.{block_cost};
-ghost use Rattle.flow_laws.specs.Paths.{follows, is_among, keeps, keeps_each, most_turns};
+ghost use Rattle.flow_laws.specs.Paths.{follows, keeps, keeps_each};
 ghost use Rattle.flow_graph.specs.Plans.{cost_of_source};
 
 use crate::spot::Spot;
@@ -56,8 +56,8 @@ fn keeps(l: &Loop, list: &[u16]) -> bool
 {
     let mut left: Option<u32> = None;
     for number in list {
-        if is_among(*number, l.into.as_slice()) {
-            left = Some(most_turns(l));
+        if l.is_entered_by(*number) {
+            left = Some(l.most_turns());
         } else if *number == l.turn {
             match left {
                 None => {}
@@ -67,27 +67,6 @@ fn keeps(l: &Loop, list: &[u16]) -> bool
         }
     }
     true
-}
-
-fn most_turns(l: &Loop) -> u32
-    ensures { result ≡ most_turns l.now }
-{
-    if l.at_end {
-        l.bound.saturating_sub(1)
-    } else {
-        l.bound
-    }
-}
-
-fn is_among(number: u16, numbers: &[u16]) -> bool
-    ensures { result ≡ is_among number numbers.now }
-{
-    for other in numbers {
-        if number == *other {
-            return true;
-        }
-    }
-    false
 }
 
 /// The cost of the block of an edge's source.

@@ -1,5 +1,8 @@
 //! The parts of a flat graph.
 
+ghost use Rattle.std.specs.Prelude.{◌≡◌};
+ghost use Rattle.flow_laws.specs.Paths.{is_among, most_turns};
+
 use c_tree::BlockName;
 use sqlite_items::Items;
 
@@ -38,4 +41,29 @@ pub struct Loop {
     pub into: Items<u16>,
     pub turn: u16,
     pub at_end: bool,
+}
+
+impl Loop {
+    /// How often `turn` may be taken after each edge of `into`: `bound`, and of `do` one less.
+    pub fn most_turns(&self) -> u32
+        ensures { result ≡ most_turns self.now }
+    {
+        if self.at_end {
+            self.bound.saturating_sub(1)
+        } else {
+            self.bound
+        }
+    }
+
+    /// Whether the edge is among `into`.
+    pub fn is_entered_by(&self, edge: u16) -> bool
+        ensures { result ≡ is_among edge self.now.into }
+    {
+        for other in self.into.as_slice() {
+            if edge == *other {
+                return true;
+            }
+        }
+        false
+    }
 }

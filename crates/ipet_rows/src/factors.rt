@@ -1,7 +1,6 @@
 //! The factors of edges in rows.
 
 ghost use Rattle.std.specs.Prelude.{◌≡◌, ◌++◌, IfOk};
-ghost use Rattle.flow_laws.specs.Paths.{is_among, most_turns};
 ghost use Rattle.ipet_rows.specs.FlowRows.{one_if, term, node_factor, turn_factor};
 
 use c_tree::NoMemory;
@@ -33,33 +32,12 @@ pub(crate) fn node_factor(n: u32, e: u16, edge: &Edge) -> i128
 pub(crate) fn turn_factor(l: &Loop, e: u16) -> i128
     ensures { result ≡ turn_factor l.now e }
 {
-    let entries = one_if(is_among(e, l.into.as_slice()));
-    one_if(e == l.turn) - i128::from(most_turns(l)) * entries
+    let entries = one_if(l.is_entered_by(e));
+    one_if(e == l.turn) - i128::from(l.most_turns()) * entries
 }
 
 fn one_if(holds: bool) -> i128
     ensures { result ≡ one_if holds }
 {
     if holds { 1 } else { 0 }
-}
-
-fn most_turns(l: &Loop) -> u32
-    ensures { result ≡ most_turns l.now }
-{
-    if l.at_end {
-        l.bound.saturating_sub(1)
-    } else {
-        l.bound
-    }
-}
-
-fn is_among(number: u16, numbers: &[u16]) -> bool
-    ensures { result ≡ is_among number numbers.now }
-{
-    for other in numbers {
-        if number == *other {
-            return true;
-        }
-    }
-    false
 }
