@@ -11,8 +11,8 @@ const FRAME: Frame = Frame {
 
 // Statements and their trees.
 const TREES: &str = "\
- ## 
 ; ## ;
+ ## 
 { } ## {}
 { ; { x = 1; } } ## {;{x@16=1@20;}}
 // Assignments, with the place of a `++` or `--`.

@@ -101,8 +101,8 @@ int f( ## int x,  ## ;
 
 // The first piece, the piece that is repeated, and the last one, in texts of a mebibyte that spell units.
 const LEGAL: &str = "\
- ## int x;  ## int y;
 int f() {  ## x = x + 1;  ## }
+ ## int x;  ## int y;
 int f() { int x ## , x ## ; }
 int a[] = {1 ## , 1 ## ,};
 ";
