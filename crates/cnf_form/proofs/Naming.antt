@@ -1,8 +1,10 @@
 -- Literals of different variables.
-use Rattle.std.proofs.Common.{◌≡◌, ℕ, ℤ, List, ◌+◌, ◌<◌, length, get_or, take, [], ◌≤◌, Any, unsigned_abs, subst, arith, sym, ap, ◌∙◌}
-use Rattle.std.proofs.lemmas.List.{take_all, take_more, get_or_default, get_or-take, length-take-le}
-use Rattle.std.proofs.lemmas.List.Elements.{All-nil, All-more}
+use Rattle.std.proofs.Common.{◌≡◌, ℕ, ℤ, List, ◌+◌, ◌<◌, length, get_or, take, map, [], ◌≤◌, All, Any, unsigned_abs, subst, arith, sym, ap, ◌∙◌}
+use Rattle.std.proofs.lemmas.List.{take_all, take_more, map_more, get_or_default, get_or-take, length-take-le}
+use Rattle.std.proofs.lemmas.List.Elements.{All-nil, All-more, All-push, All-map}
 use Rattle.std.proofs.lemmas.List.Quantifiers.{all_pairs_push}
+use Rattle.cnf_form.specs.declared.log.LogLine.{LogLine}
+use Rattle.cnf_form.specs.Forms.{IsLogLine}
 use Rattle.cnf_form.specs.Literals.{NamesOnce, IsClause, AreClauses}
 
 -- one more literal, of whose variable no earlier one is
@@ -32,3 +34,15 @@ AreClauses-more clauses i clause literals within is same before here =
 -- all were seen
 pub AreClauses-all : (clauses : List (List ℤ)) (i : ℕ) → length clauses ≤ i → AreClauses (take i clauses) → AreClauses clauses
 AreClauses-all clauses i past before = subst AreClauses (take_all i clauses past) before
+
+-- the clauses of one more line
+pub line_clauses-more : (lines : List LogLine) (i : ℕ) (line : LogLine) (literals : List ℤ) → i < length lines → line ≡ get_or lines i line → literals ≡ line.clause → AreClauses (map (λ (line : LogLine). line.clause) (take i lines)) → IsClause literals → AreClauses (map (λ (line : LogLine). line.clause) (take (i + 1) lines))
+line_clauses-more lines i line literals within is same before here =
+    let clause : LogLine → List ℤ = λ line. line.clause in
+    rw (map_more clause lines i line within)
+    (record { each = All-push IsClause (map clause (take i lines)) (clause (get_or lines i line)) before.each (subst IsClause (same ∙ ap clause is) here) })
+
+-- the clauses of the lines of a log that was read
+pub line_clauses : (lines : List LogLine) → All IsLogLine lines → AreClauses (map (λ (line : LogLine). line.clause) lines)
+line_clauses lines each =
+    record { each = All-map IsClause (λ (line : LogLine). line.clause) lines (λ k d within. (each k d within).clause) }

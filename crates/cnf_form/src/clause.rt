@@ -42,8 +42,9 @@ impl Clause {
         }
     }
 
-    /// The clause of these literals, which are those of a clause.
-    pub(crate) fn of_clause(alloc: Global, literals: &[i32]) -> Result<Clause, AllocError>
+    /// The clause of these literals, in this order, where it is known that they are literals and no two of one variable,
+    /// so that nothing is tested. It fails for want of memory alone.
+    pub fn of_clause(alloc: Global, literals: &[i32]) -> Result<Clause, AllocError>
         requires { IsClause literals.now }
         ensures { IfOk result (λ clause. clause ≡ literals.now) }
     {
@@ -67,7 +68,8 @@ impl Clause {
     }
 }
 
-fn names_up_to(literals: &[i32], variables: u32) -> bool
+/// Whether each of these literals is of a variable from 1 to `variables`.
+pub(crate) fn names_up_to(literals: &[i32], variables: u32) -> bool
     ensures { IsTrue result ↔ NamesUpTo variables literals.now }
 {
     literals

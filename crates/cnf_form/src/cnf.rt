@@ -1,9 +1,9 @@
 //! Formulas.
 
 ghost use Rattle.std.specs.Prelude.{◌≡◌, ◌≤◌, ◌↔◌, IsTrue, IsSome, IfSome, length, All};
-ghost use Rattle.cnf_form.specs.Literals.{most, NamesUpTo};
+ghost use Rattle.cnf_form.specs.Literals.{most, AreClauses, NamesUpTo};
 
-use crate::clause::Clause;
+use crate::clause::{Clause, names_up_to};
 use sqlite_items::Items;
 
 /// The greatest number of variables, of clauses and of lines.
@@ -17,6 +17,7 @@ pub struct Cnf {
     pub clauses: Items<Clause>,
     ghost few_variables: { variables ≤ most },
     ghost few_clauses: { length clauses ≤ most },
+    ghost each: { AreClauses clauses },
     ghost named: { All (NamesUpTo variables) clauses },
 }
 
@@ -43,14 +44,22 @@ impl Cnf {
     pub fn clauses(&self) -> &[Clause]
         ensures value { result.now ≡ self.now.clauses }
         ensures few { length result.now ≤ most }
+        ensures each { AreClauses result.now }
         ensures named { All (NamesUpTo self.now.variables) result.now }
     {
         self.clauses.as_slice()
     }
 }
 
+// Whether each clause names variables from 1 to `variables` alone. Each is looked at, so that all are known to be clauses.
 fn all_name_up_to(clauses: &[Clause], variables: u32) -> bool
-    ensures { IsTrue result ↔ All (NamesUpTo variables) clauses.now }
+    ensures named { IsTrue result ↔ All (NamesUpTo variables) clauses.now }
+    ensures each { IsTrue result → AreClauses clauses.now }
 {
-    clauses.iter().all(|clause| clause.names_up_to(variables))
+    for clause in clauses {
+        if !names_up_to(clause.literals(), variables) {
+            return false;
+        }
+    }
+    true
 }

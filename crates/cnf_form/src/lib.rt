@@ -33,6 +33,3 @@ pub use law::{one_formula, one_log, read_again, read_log_again};
 pub use log::{Log, LogLine};
 pub use log_text::read_log;
 pub use write::{write_cnf, write_log};
-
-#[cfg(test)]
-mod tests;

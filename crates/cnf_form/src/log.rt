@@ -1,7 +1,7 @@
 //! Refutation logs.
 
-ghost use Rattle.std.specs.Prelude.{◌≡◌, ◌≤◌, ◌↔◌, IsSome, IfSome, length};
-ghost use Rattle.cnf_form.specs.Literals.{most};
+ghost use Rattle.std.specs.Prelude.{◌≡◌, ◌≤◌, ◌↔◌, IsSome, IfSome, length, map};
+ghost use Rattle.cnf_form.specs.Literals.{most, AreClauses};
 
 use crate::clause::Clause;
 use crate::cnf::MOST;
@@ -40,15 +40,18 @@ impl LogLine {
 pub struct Log {
     pub lines: Items<LogLine>,
     ghost few: { length lines ≤ most },
+    ghost each: { AreClauses (map (λ line. line.clause) lines) },
 }
 
 impl Log {
-    /// The log of these lines; `None` exactly where there are more than 2,147,483,647. It takes no memory.
+    /// The log of these lines; `None` exactly where there are more than 2,147,483,647. It takes no memory, and one step a
+    /// line.
     pub fn new(lines: Vec<LogLine>) -> Option<Log>
         ensures made { IsSome result ↔ (length lines.items ≤ most) }
         ensures lines { IfSome result (λ log. log.lines ≡ lines.items) }
     {
         let lines = Items::from_vec(lines);
+        look_at_clauses(lines.as_slice());
         if lines.len() <= MOST as usize {
             Some(Log { lines })
         } else {
@@ -60,7 +63,17 @@ impl Log {
     pub fn lines(&self) -> &[LogLine]
         ensures value { result.now ≡ self.now.lines }
         ensures few { length result.now ≤ most }
+        ensures each { AreClauses (map (λ line. line.clause) result.now) }
     {
         self.lines.as_slice()
+    }
+}
+
+// Looks at the clause of each line, so that all are known to be clauses.
+fn look_at_clauses(lines: &[LogLine])
+    ensures { AreClauses (map (λ line. line.clause) lines.now) }
+{
+    for line in lines {
+        let _literals = line.clause.literals();
     }
 }

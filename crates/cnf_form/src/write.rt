@@ -2,7 +2,6 @@
 
 ghost use Rattle.std.specs.Prelude.{◌≡◌, ◌+◌, ◌++◌, ◌<◌, ◌^◌, codes, decimal, All, IfOk, OnOk};
 ghost use Rattle.std.specs.List.{flat_map};
-ghost use Rattle.cnf_form.specs.Literals.{AreClauses};
 ghost use Rattle.cnf_form.specs.Forms.{IsCnfText, IsLogLine, IsLogText};
 ghost use Rattle.cnf_form.specs.Texts.{literals_text, clause_text, cnf_text, hints_text, line_text, log_text};
 
@@ -26,8 +25,7 @@ pub fn write_cnf(alloc: Global, cnf: &Cnf) -> Result<Vec<u8>, NoMemory>
 }
 
 fn cnf_bytes(alloc: Global, cnf: &Cnf) -> Result<Vec<u8>, AllocError>
-    ensures text { IfOk result (λ text. text.items ≡ cnf_text cnf.now.variables cnf.now.clauses) }
-    ensures each { OnOk result (AreClauses cnf.now.clauses) }
+    ensures { IfOk result (λ text. text.items ≡ cnf_text cnf.now.variables cnf.now.clauses) }
 {
     let clauses = cnf.clauses();
     let mut text = Vec::from_slice(alloc, b"p cnf ")?;
@@ -71,8 +69,7 @@ fn push_number(text: &mut Vec<u8>, number: u32) -> Result<(), AllocError>
 }
 
 fn push_clauses(text: &mut Vec<u8>, clauses: &[Clause]) -> Result<(), AllocError>
-    ensures text { OnOk result (text.new.items ≡ text.old.items ++ flat_map clause_text clauses.now) }
-    ensures each { OnOk result (AreClauses clauses.now) }
+    ensures { OnOk result (text.new.items ≡ text.old.items ++ flat_map clause_text clauses.now) }
 {
     for clause in clauses {
         push_literals(text, clause.literals())?;
