@@ -3,6 +3,7 @@ use Rattle.cnf_form.specs.Lines.{LeavesAt}
 use Rattle.cnf_form.specs.Forms.{IsLogFile}
 use Rattle.cnf_form.specs.LogReading.{IsLogCourse}
 use Rattle.cnf_form.proofs.Leaving.{is_empty}
+use Rattle.cnf_form.proofs.Naming.{line_clauses}
 use Rattle.cnf_form.proofs.LogTexts.{too_many, no_line_here, line_cut_off, next_line, too_few, whole_log, cut_shorter}
 use Rattle.cnf_form.proofs.log_text.read_lines.Goals as goal
 
@@ -49,3 +50,8 @@ returns-clause-read c =
     let kept = c.loop-rest.invariant in
     let none = is_empty (length c.loop-rest.rest.now) c.is_empty.result c.is_empty.ensures c.loop-rest-test.false in
     rw c.from_vec.ensures (whole_log c.args.text.now c.loop-rest.rest.now c.args.count c.loop-rest.lines.items kept.place none (omega (arith, kept.seen, c.if-seen-count-2.false)))
+
+pub invariant_of-result : goal.invariant_of-result
+invariant_of-result c =
+    let kept = c.loop-rest.invariant in
+    rw c.from_vec.ensures (record { few = omega (arith, kept.place.within, kept.place.few); each = line_clauses c.loop-rest.lines.items kept.place.each })
