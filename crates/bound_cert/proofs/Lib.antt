@@ -1,5 +1,6 @@
 pub mod Batches
 pub mod Columns
+pub mod Covered
 pub mod Duality
 pub mod Edges
 pub mod ListSteps

@@ -30,6 +30,11 @@ weighted_factors (row ∷ rows) [] edge = []
 abbrev pub reduced_cost : Rows → Multipliers → ℕ → ℕ → ℤ
 reduced_cost rows by edge cost = by.d *ℤ pos cost -ℤ total (weighted_factors rows.rows by.y edge)
 
+-- the same of each edge in order, from an edge on
+abbrev pub reduced_costs : Rows → Multipliers → ℕ → List ℕ → List ℤ
+reduced_costs rows by edge [] = []
+reduced_costs rows by edge (cost ∷ costs) = reduced_cost rows by edge cost ∷ reduced_costs rows by (edge + 1) costs
+
 -- the limit at which r times a count comes to most: the greatest where r is not negative, else the least
 abbrev pub best_limit : ℤ → ℕ × ℕ → ℕ
 best_limit r limit = if int_le (pos 0) r then limit.1 else limit.0
@@ -54,3 +59,7 @@ undivided rows objective within by =
 -- the dual value: divided by d, which is at least 1, and rounded down
 abbrev pub dual : Rows → Objective → CountBox → Multipliers → ℤ
 dual rows objective within by = int_div_euclid (undivided rows objective within by) by.d
+
+-- the dual value without a box: the weighted right sides alone, divided by d and rounded down
+abbrev pub dual_of_rows : Rows → Multipliers → ℤ
+dual_of_rows rows by = int_div_euclid (total (weighted_rights rows.rows by.y)) by.d

@@ -9,7 +9,4 @@ mod law;
 
 pub use dual::dual_bound;
 pub use fitting::by_fits;
-pub use law::weak_duality;
-
-#[cfg(test)]
-mod tests;
+pub use law::{weak_duality, weak_duality_without_box};

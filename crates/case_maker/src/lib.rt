@@ -7,6 +7,7 @@
 #![tactic(auto)]
 
 mod draws;
+mod law;
 mod lines;
 mod making;
 mod no_memory;
@@ -14,8 +15,6 @@ mod program;
 mod segment;
 mod table;
 
+pub use law::worked_states;
 pub use making::make;
 pub use no_memory::NoMemory;
-
-#[cfg(test)]
-mod tests;

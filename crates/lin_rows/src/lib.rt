@@ -15,6 +15,3 @@ pub use multipliers::Multipliers;
 pub use objective::Objective;
 pub use row::{Row, RowKind, Rows};
 pub use steps::{add_product, subtract_product};
-
-#[cfg(test)]
-mod tests;

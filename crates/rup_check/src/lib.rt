@@ -9,6 +9,3 @@ mod standing;
 
 pub use check::accepts;
 pub use law::accepted_has_no_solution;
-
-#[cfg(test)]
-mod tests;
