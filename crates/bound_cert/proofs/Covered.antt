@@ -13,7 +13,7 @@ use Rattle.lin_rows.specs.declared.multipliers.Multipliers.{Multipliers}
 use Rattle.lin_rows.specs.declared.objective.Objective.{Objective}
 use Rattle.lin_rows.specs.declared.row.Rows.{Rows}
 use Rattle.bound_cert.specs.Dual.{weighted_rights, reduced_cost, reduced_costs, best_limit, edge_bound, edge_bounds, dual_of_rows}
-use Rattle.bound_cert.specs.Law.{BeginsAtZero, DualOfCovered, WeakDualityWithoutBox}
+use Rattle.bound_cert.specs.Law.{BeginsAtZero, HaveEntries, DualOfCovered, WeakDualityWithoutBox}
 use Rattle.bound_cert.proofs.Duality.{weak_duality_lem}
 
 -- ---- no edge counts
@@ -47,11 +47,11 @@ dual_of_covered rows objective within by none covered =
 abbrev from_zero : ℕ → ℕ × ℕ
 from_zero n = (0, n)
 
-box_to : List ℕ → CountBox
-box_to x = record {
-  limits = map from_zero x;
-  ordered = All-map (λ (limit : ℕ × ℕ). limit.0 ≤ limit.1) from_zero x (λ k d within. omega arith);
-}
+ordered : (x : List ℕ) → All (λ (limit : ℕ × ℕ). limit.0 ≤ limit.1) (map from_zero x)
+ordered x = All-map (λ (limit : ℕ × ℕ). limit.0 ≤ limit.1) from_zero x (λ k d within. omega arith)
+
+abbrev box_to : List ℕ → CountBox
+box_to x = record { limits = map from_zero x; ordered = ordered x }
 
 lies_within : (x : List ℕ) → AllZip (λ (limit : ℕ × ℕ) (n : ℕ). (limit.0 ≤ n) × (n ≤ limit.1)) (map from_zero x) x
 lies_within [] = tt
@@ -61,6 +61,6 @@ pub weak_duality_without_box_lem : WeakDualityWithoutBox
 weak_duality_without_box_lem rows objective by costs fits covered x counts met =
     let within = box_to x in
     let none : BeginsAtZero within = All-map (λ (limit : ℕ × ℕ). limit.0 ≡ 0) from_zero x (λ k d within. refl) in
-    let entries = record { costs = costs; limits = length-map x from_zero ∙ counts } in
+    let entries : HaveEntries rows objective within = record { costs = costs; limits = length-map x from_zero ∙ counts } in
     subst (λ v. pos (cost objective x) ≤ℤ v) (dual_of_covered rows objective within by none covered)
     (weak_duality_lem rows objective within by entries fits x (lies_within x) met)

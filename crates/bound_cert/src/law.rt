@@ -8,9 +8,10 @@ pub fn weak_duality()
     ensures { WeakDuality }
 {}
 
-/// The law of weak duality without a box, over the definitions alone: where the multipliers fit the rows, and no edge keeps a
-/// positive reduced cost, the dual value over every box whose least counts are 0 is the sum of multiplier times right side
-/// over `d`, rounded down, and no vector that meets the rows costs more, in a box or not.
+/// The law of weak duality without a box, over the definitions alone, for multipliers that leave no edge a positive
+/// reduced cost. The dual value over every box whose least counts are 0 is the sum of multiplier times right side over
+/// the rows, divided by `d` and rounded down. Where the multipliers also fit the rows, no vector that meets the rows
+/// costs more, however great its counts.
 pub fn weak_duality_without_box()
     ensures value { DualOfCovered }
     ensures above { WeakDualityWithoutBox }

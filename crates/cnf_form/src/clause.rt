@@ -42,8 +42,8 @@ impl Clause {
         }
     }
 
-    /// The clause of these literals, in this order, where it is known that they are literals and no two of one variable,
-    /// so that nothing is tested. It fails for want of memory alone.
+    /// The clause of these literals, in this order, where it is known that they are literals and that no two are of one
+    /// variable. So nothing is tested, and it fails for want of memory alone.
     pub fn of_clause(alloc: Global, literals: &[i32]) -> Result<Clause, AllocError>
         requires { IsClause literals.now }
         ensures { IfOk result (λ clause. clause ≡ literals.now) }

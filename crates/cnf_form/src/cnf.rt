@@ -51,7 +51,8 @@ impl Cnf {
     }
 }
 
-// Whether each clause names variables from 1 to `variables` alone. Each is looked at, so that all are known to be clauses.
+// Whether each clause names variables from 1 to `variables` alone. Each is looked at, so that all are known to be
+// clauses.
 fn all_name_up_to(clauses: &[Clause], variables: u32) -> bool
     ensures named { IsTrue result ↔ All (NamesUpTo variables) clauses.now }
     ensures each { IsTrue result → AreClauses clauses.now }

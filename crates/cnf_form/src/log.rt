@@ -44,8 +44,8 @@ pub struct Log {
 }
 
 impl Log {
-    /// The log of these lines; `None` exactly where there are more than 2,147,483,647. It takes no memory, and one step a
-    /// line.
+    /// The log of these lines; `None` exactly where there are more than 2,147,483,647. It takes no memory, and one step
+    /// a line.
     pub fn new(lines: Vec<LogLine>) -> Option<Log>
         ensures made { IsSome result ↔ (length lines.items ≤ most) }
         ensures lines { IfSome result (λ log. log.lines ≡ lines.items) }
