@@ -37,6 +37,16 @@ record Split (numbers : List ℤ) (seen : List (List ℕ)) (word : List ℕ) : T
   seen_are : seen ≡ map signed_decimal front
   word_is : word ≡ signed_decimal number
 
+split_more : (n : ℤ) (ns : List ℤ) (w : List ℕ) (ws : List (List ℕ)) (word : List ℕ) → w ≡ signed_decimal n → Split ns ws word → Split (n ∷ ns) (w ∷ ws) word
+split_more n ns w ws word first more = record {
+  front = n ∷ more.front;
+  number = more.number;
+  rest = more.rest;
+  is = ap (λ k. n ∷ k) more.is;
+  seen_are = ap (λ v. v ∷ ws) first ∙ ap (λ v. signed_decimal n ∷ v) more.seen_are;
+  word_is = more.word_is;
+}
+
 split_at : (numbers : List ℤ) (seen : List (List ℕ)) (word : List ℕ) (rest : List (List ℕ)) → seen ++ word ∷ rest ≡ map signed_decimal numbers → Split numbers seen word
 split_at [] [] word rest same = cc
 split_at [] (w ∷ ws) word rest same = cc
@@ -44,8 +54,7 @@ split_at (n ∷ ns) [] word rest same = record { front = []; number = n; rest = 
 split_at (n ∷ ns) (w ∷ ws) word rest same =
     let first : w ≡ signed_decimal n = cc in
     let tail : ws ++ word ∷ rest ≡ map signed_decimal ns = cc in
-    let more = split_at ns ws word rest tail in
-    record { front = n ∷ more.front; number = more.number; rest = more.rest; is = ap (λ k. n ∷ k) more.is; seen_are = ap (λ v. v ∷ ws) first ∙ ap (λ v. signed_decimal n ∷ v) more.seen_are; word_is = more.word_is }
+    split_more n ns w ws word first (split_at ns ws word rest tail)
 
 -- ---- clauses behind clauses
 

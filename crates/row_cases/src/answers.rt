@@ -103,7 +103,7 @@ fn count_box(alloc: Global, text: &str) -> Result<String, Wrong> {
 
 fn meeting(alloc: Global, rows: &str, counts_text: &str) -> Result<String, Wrong> {
     let counts = counts(alloc, counts_text)?;
-    let edges = u32::try_from(counts.len()).map_err(|_| Wrong::NoCase)?;
+    let edges = u32::try_from(counts.len()).ok().ok_or(Wrong::NoCase)?;
     let rows = rows::rows(alloc, edges, rows)?.ok_or(Wrong::Refused)?;
     if counts.len() != rows.edges as usize {
         return Err(Wrong::Lengths);
@@ -133,7 +133,9 @@ fn bound(
     limits_text: &str,
     by: &Multipliers,
 ) -> Result<String, Wrong> {
-    let edges = u32::try_from(objective.costs().len()).map_err(|_| Wrong::NoCase)?;
+    let edges = u32::try_from(objective.costs().len())
+        .ok()
+        .ok_or(Wrong::NoCase)?;
     let rows = rows::rows(alloc, edges, rows)?.ok_or(Wrong::Refused)?;
     let within = CountBox::new(limits(alloc, limits_text)?).ok_or(Wrong::Refused)?;
     match bound_of(&rows, objective, &within, by)? {

@@ -37,7 +37,7 @@ fn made(alloc: Global, number: &str, segments: &str) -> Result<(Vec<u8>, Vec<u8>
 }
 
 fn text_of(bytes: &[u8]) -> Result<&str, Wrong> {
-    str::from_utf8(bytes).map_err(|_| Wrong::NoCase)
+    str::from_utf8(bytes).ok().ok_or(Wrong::NoCase)
 }
 
 // The number of bytes of a text, and so many of its last lines.

@@ -5,22 +5,22 @@ use std::alloc::Global;
 
 /// The number that a word is.
 pub(crate) fn integer(word: &str) -> Result<i128, Wrong> {
-    word.parse::<i128>().map_err(|_| Wrong::NoCase)
+    word.parse::<i128>().ok().ok_or(Wrong::NoCase)
 }
 
 /// The count or cost that a word is.
 pub(crate) fn count(word: &str) -> Result<u64, Wrong> {
-    word.parse::<u64>().map_err(|_| Wrong::NoCase)
+    word.parse::<u64>().ok().ok_or(Wrong::NoCase)
 }
 
 /// The number of edges, or the size, that a word is.
 pub(crate) fn size(word: &str) -> Result<u32, Wrong> {
-    word.parse::<u32>().map_err(|_| Wrong::NoCase)
+    word.parse::<u32>().ok().ok_or(Wrong::NoCase)
 }
 
 /// The edge, or the number of a case, that a word is.
 pub(crate) fn name(word: &str) -> Result<u16, Wrong> {
-    word.parse::<u16>().map_err(|_| Wrong::NoCase)
+    word.parse::<u16>().ok().ok_or(Wrong::NoCase)
 }
 
 /// The multipliers that stand in a text.
