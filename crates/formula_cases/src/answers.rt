@@ -79,7 +79,7 @@ fn log_again(alloc: Global, log: &Log) -> Result<String, Wrong> {
 
 // The bytes of a text, on one line after `ok`.
 fn written(alloc: Global, bytes: Vec<u8>) -> Result<String, Wrong> {
-    let text = str::from_utf8(bytes.as_slice()).map_err(|_| Wrong::NoCase)?;
+    let text = str::from_utf8(bytes.as_slice()).ok().ok_or(Wrong::NoCase)?;
     let line = on_one_line(alloc, text)?;
     Ok(format!(in alloc; "ok {line}")?)
 }
@@ -100,7 +100,8 @@ fn clause(alloc: Global, text: &str) -> Result<String, Wrong> {
     let literals = literals(alloc, text)?;
     match Clause::new(alloc, literals.as_slice())? {
         Some(clause) => {
-            let literals = clause.literals();
+            let again = Clause::of_clause(alloc, clause.literals())?;
+            let literals = again.literals();
             Ok(format!(in alloc; "{literals:?}")?)
         }
         None => none(alloc),

@@ -7,7 +7,7 @@ use std::alloc::Global;
 pub(crate) fn literals(alloc: Global, text: &str) -> Result<Vec<i32>, Wrong> {
     let mut numbers = Vec::new(alloc);
     for word in text.split_ascii_whitespace() {
-        numbers.push(word.parse::<i32>().map_err(|_| Wrong::NoCase)?)?;
+        numbers.push(word.parse::<i32>().ok().ok_or(Wrong::NoCase)?)?;
     }
     Ok(numbers)
 }
@@ -23,7 +23,7 @@ pub(crate) fn hints(alloc: Global, text: &str) -> Result<Vec<u32>, Wrong> {
 
 /// The number that a word is.
 pub(crate) fn number(word: &str) -> Result<u32, Wrong> {
-    word.parse::<u32>().map_err(|_| Wrong::NoCase)
+    word.parse::<u32>().ok().ok_or(Wrong::NoCase)
 }
 
 /// The truth values that stand in a text.
