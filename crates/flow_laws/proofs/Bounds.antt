@@ -148,7 +148,7 @@ under_at g n nd left e q has turned from all Jump content t te = refl
 under_at g n nd left e q has turned from all (Give x) content t te = refl
 under_at g n nd left e q has turned from all (Enter t' ls es) content t te = refl
 under_at g n nd left e q has turned from all Missing content t te = refl
-under_at g n nd left e q has turned from all (Land t' ty) content t te = refl
+under_at g n nd left e q has turned from all (Land t' ty b) content t te = refl
 
 pub record DrivenTo (g : List Site) (q : List Edge) (a : State) (n : ℕ) (m : Memory) : Type 0 where
   pub last : State

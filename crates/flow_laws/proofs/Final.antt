@@ -55,7 +55,7 @@ all_node P Jump h = tt
 all_node P (Give e) h = tt
 all_node P (Enter t ls es) h = tt
 all_node P Missing h = tt
-all_node P (Land t ty) h = tt
+all_node P (Land t ty b) h = tt
 
 pub to_list : (P : LoopCopy → Type 0) (g : List Site) → EachLoop P g → AllOf P (loop_copies g)
 to_list P [] h = tt

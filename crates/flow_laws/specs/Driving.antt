@@ -72,7 +72,7 @@ act (Give None) m = Goes Next (memory m.store m.frames None)
 act (Give (Some e)) m = goes_with (option_map (λ v. memory m.store m.frames (Some v)) (val e m.store))
 act (Enter t ls es) m = enter t ls es m
 act Missing m = Stuck
-act (Land t ty) m =
+act (Land t ty b) m =
     elim (m.frames) as (λ fs. Move) [ [] ↦ Stuck | ls ∷ fs ↦ land t (result_of ty m.result) ls fs m.store.globals ]
 
 -- ---- lists of edges
