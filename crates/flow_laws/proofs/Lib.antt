@@ -28,3 +28,7 @@ pub mod Ends
 pub mod Joined
 pub mod JoinedGraph
 pub mod CapSums
+pub mod Joining
+pub mod BoundsOn
+pub mod Computed
+pub mod Conserved

@@ -3,4 +3,5 @@
 pub mod counts;
 pub mod edges;
 pub mod graphs;
+pub mod lists;
 pub mod paths;
