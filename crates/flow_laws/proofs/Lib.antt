@@ -32,3 +32,5 @@ pub mod Joining
 pub mod BoundsOn
 pub mod Computed
 pub mod Conserved
+pub mod Nested
+pub mod LoopLaws

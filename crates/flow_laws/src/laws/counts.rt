@@ -11,7 +11,7 @@ ghost use Rattle.flow_laws.specs.Sites.{Site};
 ghost use Rattle.flow_laws.specs.declared.graph.Edge.{Edge};
 ghost use Rattle.flow_laws.specs.declared.graph.Loop.{Loop};
 ghost use Rattle.flow_laws.specs.Graphs.{graph, edges, loops};
-ghost use Rattle.flow_laws.specs.Paths.{led, IsPath, count, total, leaving, arriving, cap_of, most_turns, price, worth, copy_caps};
+ghost use Rattle.flow_laws.specs.Paths.{led, IsPath, count, total, leaving, arriving, cap_of, most_turns, KeepsEach, price, worth, copy_caps};
 ghost use Rattle.flow_laws.specs.Claims.{DrivesPath};
 
 /// A driven path takes each edge at most as often as the cap of the edge's source.
@@ -49,6 +49,14 @@ pub fn paths_are_conserved()
     ensures entry { (p : Program) (q : List ℕ) → WellFormed p → IsPath (edges (graph p)) q → count q 0 ≡ 1 }
     ensures nodes { (p : Program) (q : List ℕ) → IsPath (edges (graph p)) q
         → (n : ℕ) → 2 ≤ n → leaving (edges (graph p)) q n ≡ arriving (edges (graph p)) q n }
+{}
+
+/// On a path that keeps the bounds of all loops, driven or not, the count of a loop copy's `turn` is at most the loop's bound
+/// times the count of its `into`; of `do` the bound less one.
+pub fn kept_turns_are_bounded()
+    ensures { (p : Program) (q : List ℕ) → IsPath (edges (graph p)) q → KeepsEach (loops (graph p)) q
+        → (k : ℕ) (l : Loop) → slice_get (loops (graph p)) k ≡ Some l
+        → count q l.turn ≤ most_turns l * total q l.into }
 {}
 
 /// The price of a list is the sum of the edges' costs times their counts.
