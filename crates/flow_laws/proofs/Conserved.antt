@@ -82,19 +82,19 @@ path_nodes p q h n le =
     omega (arith, ends, first, last)
 
 -- the first edge leaves Entry, and no other does
-record EntryFirst (es : List Edge) : Type 0 where
-  first : Edge
-  rest : List Edge
-  is : es ≡ first ∷ rest
-  from : first.from ≡ 0
-  others : AllOf (λ e. 1 ≤ e.from) rest
+pub record EntryFirst (es : List Edge) : Type 0 where
+  pub first : Edge
+  pub rest : List Edge
+  pub is : es ≡ first ∷ rest
+  pub from : first.from ≡ 0
+  pub others : AllOf (λ e. 1 ≤ e.from) rest
 
 sites_first : (o : Option Copy) → EntryFirst (edges_from 0 (sites_of o))
 sites_first None = record { first = _; rest = []; is = refl; from = refl; others = tt }
 sites_first (Some c) =
     record { first = _; rest = _; is = refl; from = refl; others = edges_all (λ e. 1 ≤ e.from) (0 + 1 + 1) (c.sites [] 1 2 1) (λ m le w t. omega (arith, le)) }
 
-entry_first : (p : Program) → EntryFirst (edges (graph p))
+pub entry_first : (p : Program) → EntryFirst (edges (graph p))
 unfolding graph edges
 entry_first p = sites_first (slice_get (copies [] p.funcs) p.entry)
 

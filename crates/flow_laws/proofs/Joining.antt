@@ -63,7 +63,7 @@ abbrev pub AllOf : (Edge → Type 0) → List Edge → Type 0
 AllOf P [] = Unit {0}
 AllOf P (e ∷ es) = P e × AllOf P es
 
-all_append : (P : Edge → Type 0) (a b : List Edge) → AllOf P a → AllOf P b → AllOf P (a ++ b)
+pub all_append : (P : Edge → Type 0) (a b : List Edge) → AllOf P a → AllOf P b → AllOf P (a ++ b)
 all_append P [] b h k = k
 all_append P (e ∷ a) b h k = (h.0, all_append P a b h.1 k)
 
@@ -99,6 +99,9 @@ sites_apart (Some c) =
 exit_apart : (p : Program) → AllOf FromExit (edges (graph p))
 unfolding graph edges
 exit_apart p = sites_apart (slice_get (copies [] p.funcs) p.entry)
+
+pub no_exit : (p : Program) (j : ℕ) → IsEdgeFrom (edges (graph p)) 1 j → ⊥
+no_exit p j h = all_at FromExit (edges (graph p)) j h.0 (exit_apart p) h.1 h.2
 
 none_follows : (es : List Edge) → AllOf FromExit es → (b : Bool) (q : List ℕ) (j : ℕ) → IsPath es q → follows es (q ++ j ∷ []) ≡ b → b ≡ false
 none_follows es apart true q j path h =

@@ -34,3 +34,4 @@ pub mod Computed
 pub mod Conserved
 pub mod Nested
 pub mod LoopLaws
+pub mod Leaving
