@@ -17,7 +17,7 @@ use Rattle.flow_laws.proofs.Joining.{AllOf, all_append, all_at}
 -- ---- ways
 
 -- a condition is not left by what comes next, and anything else only by that
-abbrev WayFits : Content → Way → Type 0
+abbrev pub WayFits : Content → Way → Type 0
 WayFits (Test l x) w = w ≢ Next
 WayFits _ w = w ≡ Next
 
@@ -56,6 +56,54 @@ edges_fit n (s ∷ g) =
 fits_at : (g : List Site) (j : ℕ) (e : Edge) → slice_get (edges g) j ≡ Some e → Fits g 0 e
 unfolding edges
 fits_at g j e is = all_at (Fits g 0) (edges_from 0 g) j e (edges_fit 0 g) is
+
+-- the way of an edge fits its source, which is not Exit
+not_left : (n : ℕ) (s : Site) (c : Content) → AllOf (λ e. c ≡ Exit → ⊥) (outs n s c)
+not_left n s Exit = tt
+not_left n s (Test l e) = (λ is. cc, (λ is. cc, tt))
+not_left n s Entry = (λ is. cc, tt)
+not_left n s (Simple ss) = (λ is. cc, tt)
+not_left n s Jump = (λ is. cc, tt)
+not_left n s (Give e) = (λ is. cc, tt)
+not_left n s (Enter t ls es) = (λ is. cc, tt)
+not_left n s Missing = (λ is. cc, tt)
+not_left n s (Land t ty b) = (λ is. cc, tt)
+
+record Leaves (g : List Site) (n : ℕ) (e : Edge) : Type 0 where
+  index : ℕ
+  site : Site
+  from : e.from ≡ n + index
+  has : slice_get g index ≡ Some site
+  other : site.content ≡ Exit → ⊥
+
+both_map : (P Q R : Edge → Type 0) → ((e : Edge) → P e → Q e → R e) → (es : List Edge) → AllOf P es → AllOf Q es → AllOf R es
+both_map P Q R f [] h k = tt
+both_map P Q R f (e ∷ es) h k = (f e h.0 k.0, both_map P Q R f es h.1 k.1)
+
+edges_leave : (n : ℕ) (g : List Site) → AllOf (Leaves g n) (edges_from n g)
+edges_leave n [] = tt
+edges_leave n (s ∷ g) =
+    all_append (Leaves (s ∷ g) n) (outs n s s.content) (edges_from (n + 1) g)
+    (both_map (OutFits n s.content) (λ e. s.content ≡ Exit → ⊥) (Leaves (s ∷ g) n) (λ e h k. let from = h.0 in record { index = 0; site = s; from = omega (arith, from); has = refl; other = k }) (outs n s s.content) (outs_fit n s s.content) (not_left n s s.content))
+    (all_map (Leaves g (n + 1)) (Leaves (s ∷ g) n) (λ e h. let from = h.from in record { index = suc h.index; site = h.site; from = omega (arith, from); has = h.has; other = h.other }) (edges_from (n + 1) g) (edges_leave (n + 1) g))
+
+leaves_at : (g : List Site) (j : ℕ) (e : Edge) → slice_get (edges g) j ≡ Some e → Leaves g 0 e
+unfolding edges
+leaves_at g j e is = all_at (Leaves g 0) (edges_from 0 g) j e (edges_leave 0 g) is
+
+pub way_fits : (g : List Site) (j : ℕ) (e : Edge) (s : Site) → slice_get (edges g) j ≡ Some e → slice_get g e.from ≡ Some s → WayFits s.content e.way × (s.content ≡ Exit → ⊥)
+way_fits g j e s is has =
+    let f = fits_at g j e is in
+    let h = leaves_at g j e is in
+    let ff = f.from in
+    let fh = h.from in
+    let zf : f.index ≡ e.from = omega (arith, ff) in
+    let zh : h.index ≡ e.from = omega (arith, fh) in
+    let one : Some f.site ≡ Some s = sym f.has ∙ ap (slice_get g) zf ∙ has in
+    let two : Some h.site ≡ Some s = sym h.has ∙ ap (slice_get g) zh ∙ has in
+    let same : f.site ≡ s = cc in
+    let same2 : h.site ≡ s = cc in
+    (subst (λ y. WayFits y.content e.way) same f.fits, subst (λ y. y.content ≡ Exit → ⊥) same2 h.other)
 
 true_of : (c : Content) (v w : Way) → WayFits c v → WayFits c w → v ≡ False → w ≢ False → w ≡ True
 true_of (Test l x) v Next fv fw is other = absurd (fw refl)

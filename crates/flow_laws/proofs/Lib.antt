@@ -35,3 +35,6 @@ pub mod Conserved
 pub mod Nested
 pub mod LoopLaws
 pub mod Leaving
+pub mod Roaming
+pub mod Capped
+pub mod KeptCaps

@@ -59,6 +59,13 @@ pub fn kept_turns_are_bounded()
         → count q l.turn ≤ most_turns l * total q l.into }
 {}
 
+/// A path that keeps the bounds of all loops, driven or not, takes each edge at most as often as the cap of the edge's source.
+pub fn kept_counts_are_within_caps()
+    ensures { (p : Program) (q : List ℕ) → WellFormed p → IsPath (edges (graph p)) q → KeepsEach (loops (graph p)) q
+        → (j : ℕ) (e : Edge) → slice_get (edges (graph p)) j ≡ Some e
+        → count q j ≤ cap_of (slice_get (graph p) e.from) }
+{}
+
 /// The price of a list is the sum of the edges' costs times their counts.
 pub fn prices_are_sums_over_counts()
     ensures { (t : Costs) (g : List Site) (q : List ℕ) → price t g q ≡ worth t g q }
