@@ -38,3 +38,4 @@ pub mod Leaving
 pub mod Roaming
 pub mod Capped
 pub mod KeptCaps
+pub mod WorkedDriving
