@@ -39,3 +39,4 @@ pub mod Roaming
 pub mod Capped
 pub mod KeptCaps
 pub mod WorkedDriving
+pub mod FoundBlocks

@@ -1,5 +1,6 @@
 //! Facts about the definitions, as the contracts of functions that do nothing.
 
+pub mod blocks;
 pub mod counts;
 pub mod edges;
 pub mod graphs;
