@@ -1,5 +1,5 @@
 -- The bounds of loops one edge on.
-use Rattle.std.proofs.Common.{◌≡◌, ℕ, zero, suc, ◌-◌, Bool, true, false, if◌then◌else◌, List, [], ◌∷◌, ◌++◌, Option, Some, None, refl, sym, ap, ◌∙◌, subst, arith, tests}
+use Rattle.std.proofs.Common.{◌≡◌, ℕ, zero, suc, ◌-◌, Bool, true, false, if◌then◌else◌, List, [], ◌∷◌, ◌++◌, Option, Some, None, refl, ap, ◌∙◌, arith, tests}
 use Rattle.std.specs.Prelude.{◌==◌, ◌&&◌}
 use Rattle.flow_laws.specs.declared.graph.Loop.{Loop}
 use Rattle.flow_laws.specs.Paths.{is_among, most_turns, after_turn, keeps_from, keeps, keeps_each, one_less, turns_left_on, turns_left_from, turns_left, has_turn, allows, each_allows}

@@ -1,5 +1,5 @@
 -- How often walks that keep the bounds of loops, driven or not, leave a node: statement by statement, as for runs.
-use Rattle.std.proofs.Common.{◌≡◌, ◌⊎◌, inl, inr, ℕ, zero, suc, ◌+◌, ◌*◌, ◌-◌, ◌<◌, ◌≤◌, Bool, true, false, if◌then◌else◌, List, [], ◌∷◌, ◌++◌, length, Option, Some, None, refl, sym, ap, ◌∙◌, subst, arith}
+use Rattle.std.proofs.Common.{◌≡◌, inl, inr, ℕ, zero, suc, ◌+◌, ◌*◌, ◌-◌, ◌<◌, ◌≤◌, Bool, true, false, if◌then◌else◌, List, [], ◌∷◌, ◌++◌, length, Option, Some, None, refl, sym, ◌∙◌, subst, arith}
 use Rattle.std.specs.Prelude.{slice_get}
 use Rattle.c_tree.specs.declared.program.BlockName.{BlockName}
 use Rattle.c_tree.specs.declared.program.Func.{Func}
@@ -8,22 +8,21 @@ use Rattle.c_tree.specs.declared.tree.Target.{Target}
 use Rattle.c_tree.specs.declared.tree.Stmt.{Stmt, Row_of-Stmt, end_of-Stmt, more_of-Stmt, Held-Stmt-For-1, None', Some'}
 use Rattle.c_tree.specs.declared.tree.Stmt.TheVariants.{Empty, Scalar, Array, Assign, Call, Break, Continue, Return, If', While', Do', For', Group'}
 use Rattle.c_tree.specs.declared.tree.Stmt.TheBlock.{hidden-the_row-Stmt-0}
-use Rattle.c_tree.specs.Blocks.{is_simple, begun, blocks, row_blocks, held_blocks}
+use Rattle.c_tree.specs.Blocks.{is_simple, blocks, row_blocks, held_blocks}
 use Rattle.c_tree.specs.Statements.{block}
-use Rattle.flow_laws.specs.Sites.{Content, Entry, Exit, Simple, Test, Jump, Give, Enter, Missing, Land, LoopCopy, Site, Position, Copy, Targets, times_as_often, one, asks, loop_at, head, with_next, body_of, past, flush, call_size, call_sites, if_sites, while_sites, do_sites, for_sites, size, row_size, held_size, flow, row_flow, held_flow, list_size, list_flow}
+use Rattle.flow_laws.specs.Sites.{Content, Simple, Jump, Give, Enter, Missing, Land, LoopCopy, Site, Position, Copy, Targets, times_as_often, one, asks, loop_at, head, with_next, body_of, past, flush, call_size, call_sites, if_sites, while_sites, do_sites, for_sites, size, row_size, held_size, flow, row_flow, held_flow, list_size}
 use Rattle.flow_laws.specs.Graphs.{all_to, copy_of, copies}
 use Rattle.flow_laws.proofs.Counting.{State, hit}
-use Rattle.flow_laws.proofs.Once.{Onces, begun_once, call_once, once, row_once, held_once, list_once}
+use Rattle.flow_laws.proofs.Once.{Onces, call_once, once, row_once, held_once, list_once}
 use Rattle.flow_laws.proofs.Fair.{IsFair, AreFair, HeldFair, AllFair, FuncsFair}
-use Rattle.flow_laws.proofs.Steps.{IsFresh, After, after_step, after_after}
+use Rattle.flow_laws.proofs.Steps.{After, after_step, after_after}
 use Rattle.flow_laws.proofs.Claim.{AllFresh, HasAt, has_front, has_back}
 use Rattle.flow_laws.proofs.Sizes.{is_run, spanned, HaveSizes, head_plus, simple_size, plain_size, flow_length, row_length, held_length}
 use Rattle.flow_laws.proofs.Parts.{pending_sum, head_self}
 use Rattle.flow_laws.proofs.Lists.{simple_once, plain_once}
-use Rattle.flow_laws.proofs.Runs.{past_flush}
-use Rattle.flow_laws.proofs.Ends.{simple_span, plain_span, past_low}
+use Rattle.flow_laws.proofs.Ends.{simple_span}
 use Rattle.flow_laws.proofs.Copies.{row_fair, row_sizes, row_flows, row_onces, list_length, copy_once, once_at, all_once, onces}
-use Rattle.flow_laws.proofs.Roaming.{IsBounded, bounded_more, one_bounded, ask_bounded, fresh_step, after_none, after_wider, Onward, onward_at, next_onward, body_onward, turns_bounded, do_bounded}
+use Rattle.flow_laws.proofs.Roaming.{IsBounded, bounded_more, one_bounded, ask_bounded, fresh_step, after_none, after_wider, Onward, onward_at, next_onward, turns_bounded, do_bounded}
 
 -- z nodes from n on with the ends k are left at most d times, before what follows
 abbrev pub IsCapped : List Site → ℕ → ℕ → ℕ → ℕ → Targets → Type 0

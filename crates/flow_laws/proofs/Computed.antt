@@ -1,6 +1,6 @@
 -- Driving, computed.
 use Rattle.std.proofs.Common.{◌≡◌, ℕ, Bool, true, false, if◌then◌else◌, List, [], ◌∷◌, ◌++◌, Option, Some, None, refl, sym, ap, ◌∙◌, subst}
-use Rattle.std.specs.Prelude.{slice_get, ◌==◌, ◌&&◌, ◌↔◌, is_some, option_and_then, IsTrue}
+use Rattle.std.specs.Prelude.{slice_get, ◌==◌, ◌&&◌, ◌↔◌, is_some, option_and_then}
 use Rattle.std.proofs.lemmas.Bool.{eqb-true, eq-eqb}
 use Rattle.c_tree.specs.declared.program.Program.{Program}
 use Rattle.c_tree.specs.declared.program.Input.{Input}
@@ -9,7 +9,7 @@ use Rattle.flow_laws.specs.declared.graph.Way.TheVariants.{Next, True, False}
 use Rattle.flow_laws.specs.declared.graph.Edge.{Edge}
 use Rattle.flow_laws.specs.Sites.{Site}
 use Rattle.flow_laws.specs.Graphs.{graph, edges, loops}
-use Rattle.flow_laws.specs.Paths.{IsPath, KeepsEach, keeps_each, each_allows}
+use Rattle.flow_laws.specs.Paths.{IsPath, keeps_each, each_allows}
 use Rattle.flow_laws.specs.Driving.{Memory, Move, Stuck, Stays, Goes, act, Passes, Walks, start, Drives, Place, place, is_way, place_behind, move_at, place_after, place_along, place_of, drives}
 use Rattle.flow_laws.specs.Claims.{IsDriven, IsDrivenList}
 use Rattle.flow_laws.proofs.Prefixes.{each_is, driven_front}

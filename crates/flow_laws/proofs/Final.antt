@@ -9,7 +9,7 @@ use Rattle.c_tree.specs.declared.program.Costs.{Costs}
 use Rattle.flow_laws.specs.declared.graph.Edge.{Edge}
 use Rattle.flow_laws.specs.Sites.{LoopCopy, Content, Entry, Exit, Simple, Test, Jump, Give, Enter, Missing, Land, Site}
 use Rattle.flow_laws.specs.Graphs.{graph, edges, enters, first_out, loops_at, loop_copies, loop_of, positions}
-use Rattle.flow_laws.specs.Paths.{count, cap_of, is_among, Keeps, KeepsEach}
+use Rattle.flow_laws.specs.Paths.{count, is_among, Keeps, KeepsEach}
 use Rattle.flow_laws.specs.Driving.{Memory, start, Drives}
 use Rattle.flow_laws.specs.Claims.{EndsAt, DrivesPath, DrivesAt, Begins}
 use Rattle.flow_laws.proofs.Counting.{limit, turns, State, Driven, DrivenPath, first_state, hit, visits}
@@ -17,9 +17,9 @@ use Rattle.flow_laws.proofs.Fair.{FuncsFair}
 use Rattle.flow_laws.proofs.Keeps.{KeepsBy, counter_keeps, keeps_counter}
 use Rattle.flow_laws.proofs.Turned.{AllTested, IsTested, TestIs, turned_at, graph_turned}
 use Rattle.flow_laws.proofs.Bounds.{Walked, IsLoopAt, DrivesEdges, drives_driven, driven_drives}
-use Rattle.flow_laws.proofs.Whole.{same_costs, caps_hold}
+use Rattle.flow_laws.proofs.Whole.{same_costs}
 use Rattle.flow_laws.proofs.Edges.{turn_number, among_number}
-use Rattle.flow_laws.proofs.Caps.{hit_same, most_is}
+use Rattle.flow_laws.proofs.Caps.{hit_same}
 use Rattle.flow_laws.proofs.Numbers.{Names, have_numbers, price_names, keeps_names}
 use Rattle.flow_laws.proofs.Walking.{to_walked, from_walked, walks_lead, one_walk}
 
@@ -193,9 +193,3 @@ count_visits g j e h [] (d ∷ q) names = absurd names
 count_visits g j e h (k ∷ js) [] names = absurd names
 count_visits g j e h (k ∷ js) (d ∷ q) names =
     count_step g j k e d (count js j) (visits e.from q) h names.0 (count_visits g j e h js q names.1) (k == j) refl
-
-pub within_caps : (p : Program) (i : Input) (js : List ℕ) → FuncsFair p.funcs → DrivesPath p i js → (j : ℕ) (e : Edge) → slice_get (edges (graph p)) j ≡ Some e → count js j ≤ cap_of (slice_get (graph p) e.from)
-within_caps p i js fair h j e is =
-    let d = path_driven p i js h in
-    let visited = caps_hold p i d.list e.from fair (driven_path p i js d) in
-    omega (arith, count_visits (graph p) j e is js d.list d.names, visited, most_is p e.from)

@@ -9,7 +9,7 @@ use Rattle.flow_laws.specs.declared.graph.Way.TheVariants.{Next, True, False}
 use Rattle.flow_laws.specs.declared.graph.Edge.{Edge}
 use Rattle.flow_laws.specs.Sites.{Content, Entry, Exit, Simple, Test, Jump, Give, Enter, Missing, Land, Site, Copy}
 use Rattle.flow_laws.specs.Graphs.{leaves, copies, graph, edges, edges_from, outs, sites_of}
-use Rattle.flow_laws.specs.Paths.{led, led_on, follows, IsEdgeFrom, IsPath, count, edge_cost, price}
+use Rattle.flow_laws.specs.Paths.{led, led_on, follows, IsEdgeFrom, IsPath, count, price}
 
 -- ---- where they lead
 

@@ -1,16 +1,13 @@
 -- A path that keeps the bounds of loops, driven or not, leaves each node at most as often as its cap.
 use Rattle.std.proofs.Common.{◌≡◌, ◌≢◌, ℕ, zero, suc, ◌+◌, ◌≤◌, true, List, [], ◌∷◌, Option, Some, None, refl, sym, ap, ◌∙◌, subst, arith}
 use Rattle.std.specs.Prelude.{slice_get}
-use Rattle.c_tree.specs.declared.tree.Expr.{Expr}
 use Rattle.c_tree.specs.declared.program.Program.{Program}
-use Rattle.c_tree.specs.declared.value.Store.{Store}
 use Rattle.c_tree.specs.WellFormed.{WellFormed}
 use Rattle.flow_laws.specs.declared.graph.Way.{Way}
-use Rattle.flow_laws.specs.declared.graph.Way.TheVariants.{Next, True, False}
 use Rattle.flow_laws.specs.declared.graph.Edge.{Edge}
-use Rattle.flow_laws.specs.Sites.{Content, Entry, Exit, Simple, Test, Jump, Give, Enter, Missing, Land, LoopCopy, Site, Copy, head, one}
+use Rattle.flow_laws.specs.Sites.{Content, Entry, Exit, Simple, Test, Jump, Give, Enter, Missing, Land, Site, Copy, head, one}
 use Rattle.flow_laws.specs.Graphs.{outermost, copies, sites_of, graph, edges, loops, loop_copies, loop_of, enters}
-use Rattle.flow_laws.specs.Paths.{IsPath, count, cap_of, Keeps, KeepsEach, keeps_from}
+use Rattle.flow_laws.specs.Paths.{IsPath, count, cap_of, Keeps, KeepsEach}
 use Rattle.flow_laws.specs.Driving.{Memory, memory}
 use Rattle.flow_laws.proofs.Counting.{Counters, State, at, hit, visits, turns, limit, target}
 use Rattle.flow_laws.proofs.Fair.{program_fair}
@@ -24,9 +21,9 @@ use Rattle.flow_laws.proofs.Numbers.{Names}
 use Rattle.flow_laws.proofs.Whole.{most}
 use Rattle.flow_laws.proofs.Caps.{most_is}
 use Rattle.flow_laws.proofs.Copies.{onces}
-use Rattle.flow_laws.proofs.Conserved.{EdgesOf, edges_of, Chained}
+use Rattle.flow_laws.proofs.Conserved.{edges_of, Chained}
 use Rattle.flow_laws.proofs.Leaving.{WayFits, way_fits}
-use Rattle.flow_laws.proofs.Roaming.{Fits, Takes, Roams, IsBounded, bounded_more, one_bounded, fresh_step, Onward}
+use Rattle.flow_laws.proofs.Roaming.{Fits, Roams, IsBounded, bounded_more, one_bounded, fresh_step}
 use Rattle.flow_laws.proofs.Capped.{CopyCapped, copies_capped}
 
 -- ---- a path that keeps the bounds is a walk

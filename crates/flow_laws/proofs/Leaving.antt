@@ -1,17 +1,17 @@
 -- The edges that leave a node: Exit has none, a condition `True` and then `False`, and each other node one.
-use Rattle.std.proofs.Common.{◌≡◌, ◌≢◌, ◌⊎◌, inl, inr, ℕ, zero, suc, ◌+◌, ◌<◌, ◌≤◌, List, [], ◌∷◌, ◌++◌, length, Option, Some, None, refl, sym, ap, ◌∙◌, subst, arith}
+use Rattle.std.proofs.Common.{◌≡◌, ◌≢◌, ℕ, zero, suc, ◌+◌, ◌<◌, List, [], ◌∷◌, length, Some, refl, sym, ap, ◌∙◌, subst, arith}
 use Rattle.std.specs.Prelude.{slice_get}
 use Rattle.c_tree.specs.declared.program.Program.{Program}
 use Rattle.flow_laws.specs.declared.graph.Way.{Way}
 use Rattle.flow_laws.specs.declared.graph.Way.TheVariants.{Next, True, False}
 use Rattle.flow_laws.specs.declared.graph.Edge.{Edge}
-use Rattle.flow_laws.specs.Sites.{Content, Entry, Exit, Simple, Test, Jump, Give, Enter, Missing, Land, LoopCopy, Site}
+use Rattle.flow_laws.specs.Sites.{Content, Entry, Exit, Simple, Test, Jump, Give, Enter, Missing, Land, Site}
 use Rattle.flow_laws.specs.Graphs.{graph, edges, edges_from, leaves, outs, first_out}
 use Rattle.flow_laws.specs.Paths.{IsEdgeFrom}
 use Rattle.flow_laws.proofs.Edges.{leaves_source, place_of}
 use Rattle.flow_laws.proofs.Numbers.{Numbered, in_edges}
-use Rattle.flow_laws.proofs.Nested.{IsInner, HasInner, graph_inner}
-use Rattle.flow_laws.proofs.Conserved.{EntryFirst, entry_first}
+use Rattle.flow_laws.proofs.Nested.{IsInner, graph_inner}
+use Rattle.flow_laws.proofs.Conserved.{entry_first}
 use Rattle.flow_laws.proofs.Joining.{AllOf, all_append, all_at}
 
 -- ---- ways

@@ -1,16 +1,16 @@
 -- What is told of the loops of a graph, and that a path which keeps their bounds turns them no more than it enters them allows.
-use Rattle.std.proofs.Common.{◌≡◌, ◌⊎◌, inl, inr, ℕ, zero, suc, ◌+◌, ◌*◌, ◌<◌, ◌≤◌, Bool, true, false, if◌then◌else◌, List, [], ◌∷◌, map, Option, Some, None, refl, sym, ap, ◌∙◌, subst, arith}
-use Rattle.std.specs.Prelude.{slice_get, ◌==◌, ◌&&◌, not, nat_lt, nat_le}
+use Rattle.std.proofs.Common.{◌≡◌, ◌⊎◌, inl, inr, ℕ, zero, suc, ◌+◌, ◌*◌, ◌<◌, ◌≤◌, Bool, true, false, if◌then◌else◌, List, [], ◌∷◌, Some, None, refl, sym, ap, ◌∙◌, subst, arith}
+use Rattle.std.specs.Prelude.{slice_get, ◌==◌, ◌&&◌}
 use Rattle.std.proofs.lemmas.Bool.Decides.{nat_tests}
-use Rattle.std.proofs.lemmas.Bool.{eqb-true, eq-eqb}
+use Rattle.std.proofs.lemmas.Bool.{eqb-true}
 use Rattle.c_tree.specs.declared.tree.Expr.{Expr}
 use Rattle.c_tree.specs.declared.program.Program.{Program}
 use Rattle.flow_laws.specs.declared.graph.Way.{Way}
 use Rattle.flow_laws.specs.declared.graph.Way.TheVariants.{Next, True, False}
 use Rattle.flow_laws.specs.declared.graph.Edge.{Edge}
 use Rattle.flow_laws.specs.declared.graph.Loop.{Loop}
-use Rattle.flow_laws.specs.Sites.{LoopCopy, Content, Test, Site}
-use Rattle.flow_laws.specs.Graphs.{graph, edges, first_out, enters, is_in, loop_copies, loop_of, loops, leaves}
+use Rattle.flow_laws.specs.Sites.{LoopCopy, Test, Site}
+use Rattle.flow_laws.specs.Graphs.{graph, edges, first_out, enters, is_in, loop_copies, loop_of, loops}
 use Rattle.flow_laws.specs.Loops.{AreNested}
 use Rattle.flow_laws.specs.Paths.{IsPath, times, count, total, most_turns, Keeps, KeepsEach, after_turn, keeps_from}
 use Rattle.flow_laws.proofs.Counting.{target, limit, turns, is_true_end}
@@ -20,12 +20,12 @@ use Rattle.flow_laws.proofs.Edges.{leaves_source}
 use Rattle.flow_laws.proofs.Ends.{LeadsOn}
 use Rattle.flow_laws.proofs.Turned.{TestIs, graph_turned}
 use Rattle.flow_laws.proofs.Bounds.{IsLoopAt}
-use Rattle.flow_laws.proofs.Final.{AllOf, EachLoop, to_list, from_list, loop_at_node, turn_is, edges_keep, each_to_all}
+use Rattle.flow_laws.proofs.Final.{AllOf, to_list, from_list, loop_at_node, turn_is, edges_keep, each_to_all}
 use Rattle.flow_laws.proofs.Numbers.{Names, times_names}
 use Rattle.flow_laws.proofs.Totals.{total_positions, total_names}
 use Rattle.flow_laws.proofs.Rows.{IsTurnedWithin, turns_under, each_is_of}
 use Rattle.flow_laws.proofs.Conserved.{EdgesOf, edges_of, Chained}
-use Rattle.flow_laws.proofs.Nested.{IsInner, Off, NestsWith, Meets, AllMeet, OfLoop, MeetAll, graph_meets, HasInner, graph_inner}
+use Rattle.flow_laws.proofs.Nested.{Off, NestsWith, Meets, AllMeet, OfLoop, MeetAll, graph_meets, graph_inner}
 
 -- ---- loops of the list
 

@@ -1,5 +1,5 @@
 -- Loops are nested: of two one lies in the other or they are apart, and an edge from outside leads to the first node at most.
-use Rattle.std.proofs.Common.{◌≡◌, ◌⊎◌, inl, inr, ℕ, zero, suc, ◌+◌, ◌<◌, ◌≤◌, Bool, true, false, if◌then◌else◌, List, [], ◌∷◌, ◌++◌, length, Option, Some, None, refl, sym, ap, ◌∙◌, subst, arith, length-append}
+use Rattle.std.proofs.Common.{◌≡◌, ◌⊎◌, inl, inr, ℕ, zero, suc, ◌+◌, ◌<◌, ◌≤◌, Bool, true, false, if◌then◌else◌, List, [], ◌∷◌, ◌++◌, length, Option, Some, None, refl, sym, subst, arith, length-append}
 use Rattle.std.specs.Prelude.{slice_get}
 use Rattle.c_tree.specs.declared.tree.Expr.{Expr}
 use Rattle.c_tree.specs.declared.tree.Target.{Target}
@@ -13,8 +13,8 @@ use Rattle.c_tree.specs.Blocks.{is_simple, blocks, row_blocks, held_blocks}
 use Rattle.c_tree.specs.Statements.{block}
 use Rattle.flow_laws.specs.Sites.{LoopCopy, Content, Entry, Exit, Simple, Test, Jump, Give, Enter, Missing, Land, Site, Position, Copy, Targets, times_as_often, one, asks, loop_at, head, with_next, body_of, past, flush, call_size, call_sites, if_sites, while_sites, do_sites, for_sites, size, row_size, held_size, flow, row_flow, held_flow, list_size, list_flow}
 use Rattle.flow_laws.specs.Graphs.{all_to, copy_of, copies, sites_of, graph, outermost}
-use Rattle.flow_laws.specs.Loops.{IsInside, IsApart, AreNested}
-use Rattle.flow_laws.proofs.Sizes.{HaveSizes, is_run, spanned, plain_size, flow_length, row_length, held_length}
+use Rattle.flow_laws.specs.Loops.{AreNested}
+use Rattle.flow_laws.proofs.Sizes.{HaveSizes, is_run, spanned, flow_length, row_length, held_length}
 use Rattle.flow_laws.proofs.Copies.{row_sizes, row_flows, list_length}
 use Rattle.flow_laws.proofs.Runs.{past_flush}
 use Rattle.flow_laws.proofs.Ends.{LeadsOn, AllLead, TargetsAre, lead_append, simple_span, plain_span, past_low, st_ends, row_ends, held_ends}

@@ -1,6 +1,6 @@
 -- Walks over edges that keep the bounds of loops, driven or not, and how often they can leave a node.
-use Rattle.std.proofs.Common.{◌≡◌, ◌≢◌, ◌⊎◌, inl, inr, ℕ, zero, suc, ◌+◌, ◌*◌, ◌-◌, ◌<◌, ◌≤◌, Bool, true, false, if◌then◌else◌, List, [], ◌∷◌, ◌++◌, length, Option, Some, None, refl, sym, ap, ◌∙◌, subst, arith}
-use Rattle.std.specs.Prelude.{slice_get, ◌&&◌, ◌==◌}
+use Rattle.std.proofs.Common.{◌≡◌, ◌≢◌, ◌⊎◌, inl, inr, ℕ, zero, suc, ◌+◌, ◌*◌, ◌<◌, ◌≤◌, true, false, List, [], ◌∷◌, Option, Some, refl, sym, ap, ◌∙◌, subst, arith}
+use Rattle.std.specs.Prelude.{slice_get, ◌&&◌}
 use Rattle.std.proofs.lemmas.Bool.{eq-eqb}
 use Rattle.c_tree.specs.declared.program.BlockName.{BlockName}
 use Rattle.c_tree.specs.declared.tree.Expr.{Expr}
@@ -9,8 +9,8 @@ use Rattle.flow_laws.specs.declared.graph.Way.TheVariants.{Next, True, False}
 use Rattle.flow_laws.specs.declared.graph.Edge.{Edge}
 use Rattle.flow_laws.specs.Sites.{Content, Exit, Test, LoopCopy, Site, Position, Targets, one, asks, with_next, body_of}
 use Rattle.flow_laws.specs.Graphs.{leaves}
-use Rattle.flow_laws.proofs.Counting.{State, hit, visits, target, passed, is_over, is_zero, is_true_end, limit, turns}
-use Rattle.flow_laws.proofs.Steps.{IsStep, IsFresh, After, after_step, after_after, passed_fresh}
+use Rattle.flow_laws.proofs.Counting.{State, hit, visits, target, is_over, is_zero, is_true_end, turns}
+use Rattle.flow_laws.proofs.Steps.{IsStep, After, after_step, after_after, passed_fresh}
 use Rattle.flow_laws.proofs.Claim.{AllFresh}
 use Rattle.flow_laws.proofs.Parts.{passed_turn}
 

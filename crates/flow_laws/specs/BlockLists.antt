@@ -11,7 +11,7 @@ use Rattle.c_tree.specs.declared.program.Local.{Local}
 use Rattle.c_tree.specs.declared.program.Func.{Func}
 use Rattle.c_tree.specs.declared.program.Program.{Program}
 use Rattle.c_tree.specs.Blocks.{is_simple}
-use Rattle.flow_laws.specs.Sites.{Content, Simple, Test, Jump, Give, Enter, Missing, Land}
+use Rattle.flow_laws.specs.Sites.{Content, Simple, Test, Jump, Give, Enter, Missing}
 
 -- a block: a run of simple statements, a condition, a jump, a `return` or a call
 pub data Block : Type 0 where
