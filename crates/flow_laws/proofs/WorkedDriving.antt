@@ -1,14 +1,20 @@
 -- Worked graphs of the filter, and what inputs drive, computed.
-use Rattle.std.proofs.Common.{◌≡◌, Some, None, [], ◌∷◌, ◌++◌, true, false, refl, pos}
+use Rattle.std.proofs.Common.{◌≡◌, Some, None, [], ◌∷◌, ◌++◌, true, false, length, refl, pos}
 use Rattle.std.specs.Prelude.{slice_get}
 use Rattle.c_tree.specs.Statements.{block}
-use Rattle.c_tree.specs.Worked.{two_thresholds, local, initialised_by_call, clamp_filter, samples, input}
+use Rattle.c_tree.specs.Worked.{num, sets, triangular_loops, two_thresholds, local, initialised_by_call, clamp_filter, samples, input}
 use Rattle.flow_laws.specs.Graphs.{graph, edges, loop_copies, loops}
-use Rattle.flow_laws.specs.Paths.{count, turns_left, allows, each_allows}
+use Rattle.flow_laws.specs.Paths.{leaving, arriving, count, turns_left, allows, each_allows}
 use Rattle.flow_laws.specs.Driving.{drives}
 use Rattle.flow_laws.specs.Claims.{IsDrivenList}
-use Rattle.flow_laws.specs.WorkedGraphs.{next, when, unless, loop, caps_of, calls_of, to_the_loop, low_turn, four_low_turns}
+use Rattle.flow_laws.specs.WorkedGraphs.{nested_do, loop_copy, next, when, unless, loop, caps_of, calls_of, to_the_loop, low_turn, four_low_turns}
 use Rattle.flow_laws.proofs.Computed.{same_driving}
+use Rattle.c_tree.specs.declared.tree.Target.TheVariants as target
+use Rattle.c_tree.specs.declared.tree.BinOp.TheVariants as bin
+use Rattle.c_tree.specs.declared.tree.Var.TheVariants.{Local, Global}
+use Rattle.c_tree.specs.declared.tree.Expr.TheVariants.{Bin, Elem}
+use Rattle.flow_laws.specs.BlockLists.{blocks_of_func, Run, Asks, Gives, Calls}
+use Rattle.flow_laws.specs.BlockLists as lists
 use Rattle.c_tree.specs.declared.tree.Expr.TheBlock as eb
 use Rattle.c_tree.specs.declared.tree.Stmt.TheBlock as sb
 use denote.Hole.Carrier as carrier
@@ -30,7 +36,7 @@ pub filter-loops : loops (graph clamp_filter) ≡ loop 4 (2 ∷ []) 3 ∷ []
 unfolding two_thresholds clamp_filter initialised_by_call graphs.graph graphs.edges sites.flow sites.row_flow sites.held_flow sites.size sites.row_size sites.held_size blocks.blocks blocks.row_blocks blocks.held_blocks eb.shape-the_row-Expr-0 eb.hidden-the_row-Expr-0 sb.shape-the_row-Stmt-0 sb.hidden-the_row-Stmt-0 sb.shape-the_row-Stmt-1 sb.hidden-the_row-Stmt-1 carrier.hidden
 filter-loops = refl
 
-pub filter-copies : loop_copies (graph clamp_filter) ≡ record { from = 4; past = 17; test = 4; bound = 4; at_end = false } ∷ []
+pub filter-copies : loop_copies (graph clamp_filter) ≡ loop_copy 4 17 4 4 false ∷ []
 unfolding two_thresholds clamp_filter initialised_by_call graphs.graph graphs.edges sites.flow sites.row_flow sites.held_flow sites.size sites.row_size sites.held_size blocks.blocks blocks.row_blocks blocks.held_blocks eb.shape-the_row-Expr-0 eb.hidden-the_row-Expr-0 sb.shape-the_row-Stmt-0 sb.hidden-the_row-Stmt-0 sb.shape-the_row-Stmt-1 sb.hidden-the_row-Stmt-1 carrier.hidden
 filter-copies = refl
 
@@ -113,3 +119,43 @@ driven_by_inputs-too_few = refl
 pub driven_by_inputs-other_mode : drives clamp_filter (input (samples 200 1)) (to_the_loop ++ low_turn) ≡ false
 unfolding two_thresholds clamp_filter initialised_by_call graphs.graph graphs.edges sites.flow sites.row_flow sites.held_flow sites.size sites.row_size sites.held_size blocks.blocks blocks.row_blocks blocks.held_blocks eb.shape-the_row-Expr-0 eb.hidden-the_row-Expr-0 sb.shape-the_row-Stmt-0 sb.hidden-the_row-Stmt-0 sb.shape-the_row-Stmt-1 sb.hidden-the_row-Stmt-1 carrier.hidden driving.start expressions.val expressions.row_val expressions.type_of expressions.row_type
 driven_by_inputs-other_mode = refl
+
+pub two_choices-leaving : leaving (edges (graph two_thresholds)) (0 ∷ 1 ∷ 2 ∷ 4 ∷ 6 ∷ 8 ∷ []) 5 ≡ 1
+unfolding two_thresholds clamp_filter triangular_loops nested_do graphs.graph graphs.edges sites.flow sites.row_flow sites.held_flow sites.size sites.row_size sites.held_size blocks.blocks blocks.row_blocks blocks.held_blocks eb.shape-the_row-Expr-0 eb.hidden-the_row-Expr-0 sb.shape-the_row-Stmt-0 sb.hidden-the_row-Stmt-0 sb.shape-the_row-Stmt-1 sb.hidden-the_row-Stmt-1 carrier.hidden
+two_choices-leaving = refl
+
+pub two_choices-arriving : arriving (edges (graph two_thresholds)) (0 ∷ 1 ∷ 2 ∷ 4 ∷ 6 ∷ 8 ∷ []) 5 ≡ 1
+unfolding two_thresholds clamp_filter triangular_loops nested_do graphs.graph graphs.edges sites.flow sites.row_flow sites.held_flow sites.size sites.row_size sites.held_size blocks.blocks blocks.row_blocks blocks.held_blocks eb.shape-the_row-Expr-0 eb.hidden-the_row-Expr-0 sb.shape-the_row-Stmt-0 sb.hidden-the_row-Stmt-0 sb.shape-the_row-Stmt-1 sb.hidden-the_row-Stmt-1 carrier.hidden
+two_choices-arriving = refl
+
+pub two_choices-into_exit : arriving (edges (graph two_thresholds)) (0 ∷ 1 ∷ 2 ∷ 4 ∷ 6 ∷ 8 ∷ []) 1 ≡ 1
+unfolding two_thresholds clamp_filter triangular_loops nested_do graphs.graph graphs.edges sites.flow sites.row_flow sites.held_flow sites.size sites.row_size sites.held_size blocks.blocks blocks.row_blocks blocks.held_blocks eb.shape-the_row-Expr-0 eb.hidden-the_row-Expr-0 sb.shape-the_row-Stmt-0 sb.hidden-the_row-Stmt-0 sb.shape-the_row-Stmt-1 sb.hidden-the_row-Stmt-1 carrier.hidden
+two_choices-into_exit = refl
+
+pub two_choices-statements : slice_get (blocks_of_func two_thresholds 0) 2 ≡ Some (Run (sets 1 None (num 1) ∷ []))
+unfolding two_thresholds clamp_filter lists.blocks_of_stmt lists.blocks_of_row lists.blocks_of_held eb.shape-the_row-Expr-0 eb.hidden-the_row-Expr-0 sb.shape-the_row-Stmt-0 sb.hidden-the_row-Stmt-0 sb.shape-the_row-Stmt-1 sb.hidden-the_row-Stmt-1 carrier.hidden
+two_choices-statements = refl
+
+pub two_choices-many : length (blocks_of_func two_thresholds 0) ≡ 6
+unfolding two_thresholds clamp_filter lists.blocks_of_stmt lists.blocks_of_row lists.blocks_of_held eb.shape-the_row-Expr-0 eb.hidden-the_row-Expr-0 sb.shape-the_row-Stmt-0 sb.hidden-the_row-Stmt-0 sb.shape-the_row-Stmt-1 sb.hidden-the_row-Stmt-1 carrier.hidden
+two_choices-many = refl
+
+pub nested_loops-for_copies : loop_copies (graph triangular_loops) ≡ loop_copy 4 10 4 4 false ∷ loop_copy 7 10 7 3 false ∷ []
+unfolding two_thresholds clamp_filter triangular_loops nested_do graphs.graph graphs.edges sites.flow sites.row_flow sites.held_flow sites.size sites.row_size sites.held_size blocks.blocks blocks.row_blocks blocks.held_blocks eb.shape-the_row-Expr-0 eb.hidden-the_row-Expr-0 sb.shape-the_row-Stmt-0 sb.hidden-the_row-Stmt-0 sb.shape-the_row-Stmt-1 sb.hidden-the_row-Stmt-1 carrier.hidden
+nested_loops-for_copies = refl
+
+pub nested_loops-do_copies : loop_copies (graph nested_do) ≡ loop_copy 2 4 3 2 true ∷ loop_copy 2 5 4 3 true ∷ []
+unfolding two_thresholds clamp_filter triangular_loops nested_do graphs.graph graphs.edges sites.flow sites.row_flow sites.held_flow sites.size sites.row_size sites.held_size blocks.blocks blocks.row_blocks blocks.held_blocks eb.shape-the_row-Expr-0 eb.hidden-the_row-Expr-0 sb.shape-the_row-Stmt-0 sb.hidden-the_row-Stmt-0 sb.shape-the_row-Stmt-1 sb.hidden-the_row-Stmt-1 carrier.hidden
+nested_loops-do_copies = refl
+
+pub filter-call : slice_get (blocks_of_func clamp_filter 1) 4 ≡ Some (Calls (target.Assign (Local 2)) 0 (Elem (Global 0) (local 1) ∷ []))
+unfolding two_thresholds clamp_filter lists.blocks_of_stmt lists.blocks_of_row lists.blocks_of_held eb.shape-the_row-Expr-0 eb.hidden-the_row-Expr-0 sb.shape-the_row-Stmt-0 sb.hidden-the_row-Stmt-0 sb.shape-the_row-Stmt-1 sb.hidden-the_row-Stmt-1 carrier.hidden
+filter-call = refl
+
+pub filter-condition : slice_get (blocks_of_func clamp_filter 0) 0 ≡ Some (Asks (Bin bin.Gt (local 0) (num 100)))
+unfolding two_thresholds clamp_filter lists.blocks_of_stmt lists.blocks_of_row lists.blocks_of_held eb.shape-the_row-Expr-0 eb.hidden-the_row-Expr-0 sb.shape-the_row-Stmt-0 sb.hidden-the_row-Stmt-0 sb.shape-the_row-Stmt-1 sb.hidden-the_row-Stmt-1 carrier.hidden
+filter-condition = refl
+
+pub filter-returned : slice_get (blocks_of_func clamp_filter 0) 4 ≡ Some (Gives (Some (local 0)))
+unfolding two_thresholds clamp_filter lists.blocks_of_stmt lists.blocks_of_row lists.blocks_of_held eb.shape-the_row-Expr-0 eb.hidden-the_row-Expr-0 sb.shape-the_row-Stmt-0 sb.hidden-the_row-Stmt-0 sb.shape-the_row-Stmt-1 sb.hidden-the_row-Stmt-1 carrier.hidden
+filter-returned = refl

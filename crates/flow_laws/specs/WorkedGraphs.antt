@@ -1,5 +1,5 @@
 -- Worked graphs. In the text beside a program its loops' bounds stand in brackets.
-use Rattle.std.specs.Prelude.{ℕ, true, false, List, [], ◌∷◌, ◌++◌, map, Option, Some, None}
+use Rattle.std.specs.Prelude.{ℕ, Bool, true, false, List, [], ◌∷◌, ◌++◌, map, Option, Some, None}
 use Rattle.c_tree.specs.declared.tree.BinOp.TheVariants as bin
 use Rattle.c_tree.specs.declared.tree.Target.TheVariants as target
 use Rattle.c_tree.specs.declared.tree.Expr.TheVariants.{Bin}
@@ -11,7 +11,7 @@ use Rattle.c_tree.specs.Worked.{num, local, sets, counts, declares, returns, fun
 use Rattle.flow_laws.specs.declared.graph.Way.TheVariants.{Next, True, False}
 use Rattle.flow_laws.specs.declared.graph.Edge.{Edge}
 use Rattle.flow_laws.specs.declared.graph.Loop.{Loop}
-use Rattle.flow_laws.specs.Sites.{Content, Land}
+use Rattle.flow_laws.specs.Sites.{LoopCopy, Content, Land}
 use Rattle.flow_laws.specs.Graphs.{leaves, graph, nodes}
 
 -- ---- parts
@@ -31,6 +31,10 @@ loop bound into turn = record { bound = bound; into = into; turn = turn; at_end 
 
 abbrev pub do_loop : ℕ → List ℕ → ℕ → Loop
 do_loop bound into turn = record { bound = bound; into = into; turn = turn; at_end = true }
+
+abbrev pub loop_copy : ℕ → ℕ → ℕ → ℕ → Bool → LoopCopy
+loop_copy from past test bound at_end =
+    record { from = from; past = past; test = test; bound = bound; at_end = at_end }
 
 abbrev pub blocks_of : Program → List (Option BlockName)
 blocks_of p = map (λ n. n.block) (nodes (graph p))

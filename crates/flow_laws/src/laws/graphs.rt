@@ -1,17 +1,21 @@
 //! Worked graphs: their edges, nodes and loop copies.
 
-ghost use Rattle.std.specs.Prelude.{◌≡◌, Some, None, [], ◌∷◌, ◌++◌, true, false, pos, slice_get};
+ghost use Rattle.std.specs.Prelude.{◌≡◌, Some, None, [], ◌∷◌, ◌++◌, true, false, pos, length, slice_get};
 ghost use Rattle.c_tree.specs.declared.tree.Ty.TheVariants as ty;
 ghost use Rattle.c_tree.specs.declared.tree.Target.TheVariants as target;
+ghost use Rattle.c_tree.specs.declared.tree.BinOp.TheVariants as bin;
+ghost use Rattle.c_tree.specs.declared.tree.Var.TheVariants.{Local, Global};
+ghost use Rattle.c_tree.specs.declared.tree.Expr.TheVariants.{Bin, Elem};
 ghost use Rattle.c_tree.specs.declared.tree.Stmt.TheVariants.{Call};
 ghost use Rattle.c_tree.specs.Statements.{block};
 ghost use Rattle.c_tree.specs.Worked.{two_thresholds, two_thresholds_costs, overflow_guard, triangular_loops, local, initialised_by_call, missing_result};
-ghost use Rattle.c_tree.specs.Worked.{clamp_filter, samples, input};
+ghost use Rattle.c_tree.specs.Worked.{num, sets, clamp_filter, samples, input};
 ghost use Rattle.flow_laws.specs.Graphs.{graph, edges, loop_copies, loops};
-ghost use Rattle.flow_laws.specs.Paths.{led, follows, count, price, edge_cost, keeps, turns_left, allows, each_allows};
+ghost use Rattle.flow_laws.specs.Paths.{led, follows, leaving, arriving, count, price, edge_cost, keeps, turns_left, allows, each_allows};
 ghost use Rattle.flow_laws.specs.Driving.{drives};
 ghost use Rattle.flow_laws.specs.Claims.{IsDrivenList};
-ghost use Rattle.flow_laws.specs.WorkedGraphs.{next, when, unless, loop, do_loop, blocks_of, chains_of, caps_of, calls_of, to_the_loop, low_turn, four_low_turns};
+ghost use Rattle.flow_laws.specs.WorkedGraphs.{next, when, unless, loop, do_loop, blocks_of, chains_of, caps_of, calls_of, loop_copy, to_the_loop, low_turn, four_low_turns};
+ghost use Rattle.flow_laws.specs.BlockLists.{blocks_of_func, Run, Asks, Gives, Calls};
 ghost use Rattle.flow_laws.specs.WorkedGraphs.{empty_main, groups_and_rest, empty_for, empty_while, empty_do, nested_do};
 ghost use Rattle.flow_laws.specs.WorkedGraphs.{jumps_in_while, jumps_in_do, jumps_in_for, jumps_without_step, end_is_reached, nested_calls};
 
@@ -24,6 +28,11 @@ pub fn two_choices()
     ensures caps { caps_of two_thresholds ≡ 1 ∷ 1 ∷ 1 ∷ 1 ∷ 1 ∷ 1 ∷ 1 ∷ 1 ∷ [] }
     ensures path { led (edges (graph two_thresholds)) 0 (0 ∷ 1 ∷ 2 ∷ 4 ∷ 6 ∷ 8 ∷ []) ≡ Some 1 }
     ensures price { price two_thresholds_costs (graph two_thresholds) (0 ∷ 1 ∷ 2 ∷ 4 ∷ 6 ∷ 8 ∷ []) ≡ 54 }
+    ensures leaving { leaving (edges (graph two_thresholds)) (0 ∷ 1 ∷ 2 ∷ 4 ∷ 6 ∷ 8 ∷ []) 5 ≡ 1 }
+    ensures arriving { arriving (edges (graph two_thresholds)) (0 ∷ 1 ∷ 2 ∷ 4 ∷ 6 ∷ 8 ∷ []) 5 ≡ 1 }
+    ensures into_exit { arriving (edges (graph two_thresholds)) (0 ∷ 1 ∷ 2 ∷ 4 ∷ 6 ∷ 8 ∷ []) 1 ≡ 1 }
+    ensures statements { slice_get (blocks_of_func two_thresholds 0) 2 ≡ Some (Run (sets 1 None (num 1) ∷ [])) }
+    ensures many { length (blocks_of_func two_thresholds 0) ≡ 6 }
     ensures broken { follows (edges (graph two_thresholds)) (0 ∷ 1 ∷ 2 ∷ 5 ∷ []) ≡ false }
     ensures entry_costs_nothing { edge_cost two_thresholds_costs (graph two_thresholds) 0 ≡ 0 }
     ensures guard { edges (graph (overflow_guard ty.Int)) ≡ next 0 2 ∷ next 2 3 ∷ when 3 4 ∷ unless 3 5 ∷ next 4 5 ∷ next 5 1 ∷ [] }
@@ -62,9 +71,11 @@ pub fn nested_loops()
     ensures for_edges { edges (graph triangular_loops) ≡ next 0 2 ∷ next 2 3 ∷ next 3 4 ∷ when 4 6 ∷ unless 4 10 ∷ next 5 4
         ∷ next 6 7 ∷ when 7 9 ∷ unless 7 5 ∷ next 8 7 ∷ next 9 8 ∷ next 10 1 ∷ [] }
     ensures for_loops { loops (graph triangular_loops) ≡ loop 4 (2 ∷ []) 3 ∷ loop 3 (6 ∷ []) 7 ∷ [] }
+    ensures for_copies { loop_copies (graph triangular_loops) ≡ loop_copy 4 10 4 4 false ∷ loop_copy 7 10 7 3 false ∷ [] }
     ensures for_caps { caps_of triangular_loops ≡ 1 ∷ 1 ∷ 1 ∷ 1 ∷ 5 ∷ 4 ∷ 4 ∷ 16 ∷ 12 ∷ 12 ∷ 1 ∷ [] }
     ensures do_edges { edges (graph nested_do) ≡ next 0 2 ∷ next 2 3 ∷ when 3 2 ∷ unless 3 4 ∷ when 4 2 ∷ unless 4 5 ∷ next 5 1 ∷ [] }
     ensures do_loops { loops (graph nested_do) ≡ do_loop 2 (0 ∷ 4 ∷ []) 2 ∷ do_loop 3 (0 ∷ []) 4 ∷ [] }
+    ensures do_copies { loop_copies (graph nested_do) ≡ loop_copy 2 4 3 2 true ∷ loop_copy 2 5 4 3 true ∷ [] }
     ensures do_caps { caps_of nested_do ≡ 1 ∷ 1 ∷ 6 ∷ 6 ∷ 3 ∷ 1 ∷ [] }
 {}
 
@@ -110,8 +121,11 @@ pub fn filter()
         ∷ unless 7 9 ∷ next 8 12 ∷ when 9 10 ∷ unless 9 11 ∷ next 10 12 ∷ next 11 12 ∷ next 12 13 ∷ when 13 14 ∷ unless 13 15
         ∷ next 14 15 ∷ when 15 16 ∷ unless 15 5 ∷ next 16 5 ∷ next 17 1 ∷ [] }
     ensures loops { loops (graph clamp_filter) ≡ loop 4 (2 ∷ []) 3 ∷ [] }
-    ensures copies { loop_copies (graph clamp_filter) ≡ record { from = 4; past = 17; test = 4; bound = 4; at_end = false } ∷ [] }
+    ensures copies { loop_copies (graph clamp_filter) ≡ loop_copy 4 17 4 4 false ∷ [] }
     ensures landing { slice_get (calls_of clamp_filter) 12 ≡ Some (Some (block 1 4)) }
+    ensures call { slice_get (blocks_of_func clamp_filter 1) 4 ≡ Some (Calls (target.Assign (Local 2)) 0 (Elem (Global 0) (local 1) ∷ [])) }
+    ensures condition { slice_get (blocks_of_func clamp_filter 0) 0 ≡ Some (Asks (Bin bin.Gt (local 0) (num 100))) }
+    ensures returned { slice_get (blocks_of_func clamp_filter 0) 4 ≡ Some (Gives (Some (local 0))) }
     ensures caps { caps_of clamp_filter ≡ 1 ∷ 1 ∷ 1 ∷ 1 ∷ 5 ∷ 4 ∷ 4 ∷ 4 ∷ 4 ∷ 4 ∷ 4 ∷ 4 ∷ 4 ∷ 4 ∷ 4 ∷ 4 ∷ 4 ∷ 1 ∷ [] }
     ensures none_left { turns_left (loop 4 (2 ∷ []) 3) (0 ∷ 1 ∷ []) ≡ None }
     ensures all_left { turns_left (loop 4 (2 ∷ []) 3) to_the_loop ≡ Some 4 }

@@ -1,5 +1,5 @@
 use Rattle.flow_laws.proofs.laws.graphs.filter.Goals as goal
-use Rattle.flow_laws.proofs.WorkedDriving.{filter-edges, filter-loops, filter-copies, filter-landing, filter-caps, filter-none_left, filter-all_left, filter-three_left, filter-no_more, filter-fourth, filter-fifth, filter-leaves, filter-enters_again, filter-counted}
+use Rattle.flow_laws.proofs.WorkedDriving.{filter-call, filter-condition, filter-returned, filter-edges, filter-loops, filter-copies, filter-landing, filter-caps, filter-none_left, filter-all_left, filter-three_left, filter-no_more, filter-fourth, filter-fifth, filter-leaves, filter-enters_again, filter-counted}
 
 pub returns-clause-edges : goal.returns-clause-edges
 returns-clause-edges c = filter-edges
@@ -42,3 +42,12 @@ returns-clause-enters_again c = filter-enters_again
 
 pub returns-clause-counted : goal.returns-clause-counted
 returns-clause-counted c = filter-counted
+
+pub returns-clause-call : goal.returns-clause-call
+returns-clause-call c = filter-call
+
+pub returns-clause-condition : goal.returns-clause-condition
+returns-clause-condition c = filter-condition
+
+pub returns-clause-returned : goal.returns-clause-returned
+returns-clause-returned c = filter-returned
