@@ -81,7 +81,7 @@ call_alike w s None t es b n next e h = λ i. one_alike w s Missing (Some b) (n 
 call_alike w s (Some c) t es b n next e h =
     let landing = n + 1 + c.size in
     let chain = w.chain ++ b ∷ [] in
-    let inner = join_alike (c.sites chain w.scale (n + 1) landing) (one w (Land t c.result) None next ∷ []) (c.sites chain s (n + 1) landing) (one (at_scale w s) (Land t c.result) None next ∷ []) (h c refl chain w.scale s (n + 1) landing e) (λ i. one_alike w s (Land t c.result) None next e i ∷ []) in
+    let inner = join_alike (c.sites chain w.scale (n + 1) landing) (one w (Land t c.result b) None next ∷ []) (c.sites chain s (n + 1) landing) (one (at_scale w s) (Land t c.result b) None next ∷ []) (h c refl chain w.scale s (n + 1) landing e) (λ i. one_alike w s (Land t c.result b) None next e i ∷ []) in
     λ i. one_alike w s (Enter t c.locals es) (Some b) (head c.size (n + 1) landing) e i ∷ inner i
 
 module _ (cs : List Copy) (alike : HaveAlike cs) where

@@ -65,7 +65,7 @@ call_spots funcs f g chain scale b n next c t es e h =
     let landing = n + 1 + c.size in
     let copy = copy_is (slice_get (copies [] funcs) g) c inner (kept scale) (n + 1) (copy_of_all funcs f g c e) (fits n c.size h) ∙ copies_alike (take f funcs) g c e inner (kept scale) scale (n + 1) landing (twice (2 ^ 64 - 1) scale) in
     let first = spot_at (place f chain scale) b ends.Once (head c.size (n + 1) landing) (head c.size (n + 1) landing) in
-    let land = one (place f chain scale) (Land t c.result) None next in
+    let land = one (place f chain scale) (Land t c.result (block f b)) None next in
     (λ i. first ∷ (copy i ++ spot_of land ∷ [])) ∙ ap (λ y. first ∷ y) (sym (map-append spot_of (c.sites inner scale (n + 1) landing) (land ∷ [])))
 
 pub called : (funcs : List Func) (f g : ℕ) (chain : List BlockName) (scale b n next d : ℕ) (old mid new : List Item) (enter last : Spot) (name : BlockName) (first : ℕ) (t : Target) (es : List Expr) → Known (slice_get (copies_above funcs f) g) d → n + call_size (slice_get (copies_above funcs f) g) < 2 ^ 32

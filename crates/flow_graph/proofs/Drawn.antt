@@ -32,7 +32,7 @@ outs_are n Jump s e = refl
 outs_are n (Give x) s e = refl
 outs_are n (Enter t ls es) s e = refl
 outs_are n Missing s e = refl
-outs_are n (Land t ty) s e = refl
+outs_are n (Land t ty b) s e = refl
 
 edges_from_are : (n : ℕ) (g : List Site) → edges_from n g ≡ spot_edges n (spots g)
 edges_from_are n [] = refl
@@ -90,7 +90,7 @@ one_loop g es n first Jump he hf t = refl
 one_loop g es n first (Give x) he hf t = refl
 one_loop g es n first (Enter a ls xs) he hf t = refl
 one_loop g es n first Missing he hf t = refl
-one_loop g es n first (Land a ty) he hf t = refl
+one_loop g es n first (Land a ty b) he hf t = refl
 
 first_is : (a b : List Site) → length (edges a) ≡ first_out (a ++ b) (length a)
 first_is a b = ap (λ y. length (edges y)) (sym (take-append_seam a b))

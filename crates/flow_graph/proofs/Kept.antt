@@ -19,7 +19,7 @@ total_length [] = refl
 total_length (s ∷ g) = omega (arith, total_length g)
 
 pub weighs_each : Weighs one_each each
-weighs_each = record { simple = λ w ss b t. refl; jump = λ w b t. refl; give = λ w e b t. refl; enter = λ w t ls es b n. refl; missing = λ w b t. refl; nowhere = λ w t. refl; lands = λ w t ty n. refl; test = λ w l e b t u. refl }
+weighs_each = record { simple = λ w ss b t. refl; jump = λ w b t. refl; give = λ w e b t. refl; enter = λ w t ls es b n. refl; missing = λ w b t. refl; nowhere = λ w t. refl; lands = λ w t ty b n. refl; test = λ w l e b t u. refl }
 
 begun_kept : (run : Bool) → begun_amount run ≡ kept (begun run)
 begun_kept true = refl

@@ -45,13 +45,13 @@ abbrev outs_at : Site → ℕ
 outs_at s = length (outs 0 s s.content)
 
 weighs_blocks : Weighs block_of copies_weights
-weighs_blocks = record { simple = λ w ss b t. refl; jump = λ w b t. refl; give = λ w e b t. refl; enter = λ w t ls es b n. refl; missing = λ w b t. refl; nowhere = λ w t. refl; lands = λ w t ty n. refl; test = λ w l e b t u. refl }
+weighs_blocks = record { simple = λ w ss b t. refl; jump = λ w b t. refl; give = λ w e b t. refl; enter = λ w t ls es b n. refl; missing = λ w b t. refl; nowhere = λ w t. refl; lands = λ w t ty b n. refl; test = λ w l e b t u. refl }
 
 weighs_outs : Weighs outs_at edges_weights
-weighs_outs = record { simple = λ w ss b t. refl; jump = λ w b t. refl; give = λ w e b t. refl; enter = λ w t ls es b n. refl; missing = λ w b t. refl; nowhere = λ w t. refl; lands = λ w t ty n. refl; test = λ w l e b t u. refl }
+weighs_outs = record { simple = λ w ss b t. refl; jump = λ w b t. refl; give = λ w e b t. refl; enter = λ w t ls es b n. refl; missing = λ w b t. refl; nowhere = λ w t. refl; lands = λ w t ty b n. refl; test = λ w l e b t u. refl }
 
 weighs_ends : Weighs (λ s. ends_at s.content) edges_weights
-weighs_ends = record { simple = λ w ss b t. refl; jump = λ w b t. refl; give = λ w e b t. refl; enter = λ w t ls es b n. refl; missing = λ w b t. refl; nowhere = λ w t. refl; lands = λ w t ty n. refl; test = λ w l e b t u. refl }
+weighs_ends = record { simple = λ w ss b t. refl; jump = λ w b t. refl; give = λ w e b t. refl; enter = λ w t ls es b n. refl; missing = λ w b t. refl; nowhere = λ w t. refl; lands = λ w t ty b n. refl; test = λ w l e b t u. refl }
 
 blocks_total : (g : List Site) → block_copies g ≡ total block_of g
 blocks_total [] = refl
@@ -66,7 +66,7 @@ outs_same n s Jump = refl
 outs_same n s (Give e) = refl
 outs_same n s (Enter t ls es) = refl
 outs_same n s Missing = refl
-outs_same n s (Land t ty) = refl
+outs_same n s (Land t ty b) = refl
 
 edges_total : (n : ℕ) (g : List Site) → length (edges_from n g) ≡ total outs_at g
 edges_total n [] = refl
@@ -82,7 +82,7 @@ one_end Jump = omega arith
 one_end (Give e) = omega arith
 one_end (Enter t ls es) = omega arith
 one_end Missing = omega arith
-one_end (Land t ty) = omega arith
+one_end (Land t ty b) = omega arith
 
 long_total : (g : List Site) → length g ≤ total (λ s. ends_at s.content) g
 long_total [] = omega arith

@@ -49,7 +49,7 @@ module _ (m : ℕ) where
   call_tame w (Some c) t es b n next h k =
       let landing = n + 1 + c.size in
       let inner = c.sites (w.chain ++ b ∷ []) w.scale (n + 1) landing in
-      let land = one w (Land t c.result) None next ∷ [] in
+      let land = one w (Land t c.result b) None next ∷ [] in
       (k.0, all_join inner land (h c refl (w.chain ++ b ∷ []) w.scale (n + 1) landing (blocks_split inner land k.1).0) (k.0, tt))
 
   flush_tame : (w : Position) (ss : List Stmt) (b : BlockName) (t : ℕ) → IsTame (flush w ss b t)

@@ -38,7 +38,7 @@ pub record Weighs (f : Site → ℕ) (v : Weights) : Type 0 where
   pub enter : (w : Position) (t : Target) (ls : List Local) (es : List Expr) (b : BlockName) (n : ℕ) → f (one w (Enter t ls es) (Some b) n) ≡ 1
   pub missing : (w : Position) (b : BlockName) (t : ℕ) → f (one w Missing (Some b) t) ≡ 1
   pub nowhere : (w : Position) (t : ℕ) → f (one w Missing None t) ≡ v.landing
-  pub lands : (w : Position) (t : Target) (ty : Option Ty) (n : ℕ) → f (one w (Land t ty) None n) ≡ v.landing
+  pub lands : (w : Position) (t : Target) (ty : Option Ty) (b : BlockName) (n : ℕ) → f (one w (Land t ty b) None n) ≡ v.landing
   pub test : (w : Position) (l : Option LoopCopy) (e : Expr) (b : BlockName) (t u : ℕ) → f (asks w l e b t u) ≡ v.test
 
 -- a copy of a function counts its amount, wherever it stands
@@ -107,8 +107,8 @@ module _ (f : Site → ℕ) (v : Weights) (weighs : Weighs f v) where
       let landing = n + 1 + c.size in
       let inner = c.sites (w.chain ++ b ∷ []) w.scale (n + 1) landing in
       let enter = one w (Enter t c.locals es) (Some b) (head c.size (n + 1) landing) in
-      let land = one w (Land t c.result) None next in
-      ap kept (λ i. f enter + total_append f inner (land ∷ []) i) ∙ ap kept (λ i. f enter + (total f inner + (weighs.lands w t c.result next i + 0))) ∙ sum_call (2 ^ 64 - 1) (f enter) (total f inner) v.landing d (weighs.enter w t c.locals es b (head c.size (n + 1) landing)) (h (w.chain ++ b ∷ []) w.scale (n + 1) landing)
+      let land = one w (Land t c.result b) None next in
+      ap kept (λ i. f enter + total_append f inner (land ∷ []) i) ∙ ap kept (λ i. f enter + (total f inner + (weighs.lands w t c.result b next i + 0))) ∙ sum_call (2 ^ 64 - 1) (f enter) (total f inner) v.landing d (weighs.enter w t c.locals es b (head c.size (n + 1) landing)) (h (w.chain ++ b ∷ []) w.scale (n + 1) landing)
 
   flush_total : (w : Position) (ss : List Stmt) (b : BlockName) (t : ℕ) (xs : List Site) (m : ℕ) → kept (total f xs) ≡ m → kept (total f (flush w ss b t ++ xs)) ≡ with_passed ss m
   flush_total w [] b t xs m h = h

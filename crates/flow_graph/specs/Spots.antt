@@ -24,7 +24,7 @@ ends_of Jump = ends.Once
 ends_of (Give e) = ends.Once
 ends_of (Enter t ls es) = ends.Once
 ends_of Missing = ends.Once
-ends_of (Land t ty) = ends.Once
+ends_of (Land t ty b) = ends.Once
 
 abbrev pub kept_node : Node → Node
 kept_node nd = record { block = nd.block; chain = nd.chain; cap = kept nd.cap }

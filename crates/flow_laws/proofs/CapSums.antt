@@ -101,7 +101,7 @@ call_caps w (Some c) m t es b n next some none =
     let landing = n + 1 + c.size in
     let chain = w.chain ++ b ∷ [] in
     let inner = c.sites chain w.scale (n + 1) landing in
-    omega (arith, caps_append inner (one w (Land t c.result) None next ∷ []), some c refl chain w.scale (n + 1) landing)
+    omega (arith, caps_append inner (one w (Land t c.result b) None next ∷ []), some c refl chain w.scale (n + 1) landing)
 
 -- the cap of a block of simple statements that were passed
 abbrev passed_cap : List Stmt → ℕ → ℕ

@@ -78,7 +78,7 @@ out_is n s Jump k e h = next_out n s k e h
 out_is n s (Give x) k e h = next_out n s k e h
 out_is n s (Enter t ls es) k e h = next_out n s k e h
 out_is n s Missing k e h = next_out n s k e h
-out_is n s (Land t ty) k e h = next_out n s k e h
+out_is n s (Land t ty b) k e h = next_out n s k e h
 
 -- ---- the edges of all nodes, of which the first has the number n
 

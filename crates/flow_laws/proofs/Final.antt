@@ -9,7 +9,7 @@ use Rattle.c_tree.specs.declared.program.Costs.{Costs}
 use Rattle.flow_laws.specs.declared.graph.Edge.{Edge}
 use Rattle.flow_laws.specs.Sites.{LoopCopy, Content, Entry, Exit, Simple, Test, Jump, Give, Enter, Missing, Land, Site}
 use Rattle.flow_laws.specs.Graphs.{graph, edges, enters, first_out, loops_at, loop_copies, loop_of, positions}
-use Rattle.flow_laws.specs.Paths.{count, cap_of, is_among, Keeps, KeepsEach}
+use Rattle.flow_laws.specs.Paths.{count, is_among, Keeps, KeepsEach}
 use Rattle.flow_laws.specs.Driving.{Memory, start, Drives}
 use Rattle.flow_laws.specs.Claims.{EndsAt, DrivesPath, DrivesAt, Begins}
 use Rattle.flow_laws.proofs.Counting.{limit, turns, State, Driven, DrivenPath, first_state, hit, visits}
@@ -17,9 +17,9 @@ use Rattle.flow_laws.proofs.Fair.{FuncsFair}
 use Rattle.flow_laws.proofs.Keeps.{KeepsBy, counter_keeps, keeps_counter}
 use Rattle.flow_laws.proofs.Turned.{AllTested, IsTested, TestIs, turned_at, graph_turned}
 use Rattle.flow_laws.proofs.Bounds.{Walked, IsLoopAt, DrivesEdges, drives_driven, driven_drives}
-use Rattle.flow_laws.proofs.Whole.{same_costs, caps_hold}
+use Rattle.flow_laws.proofs.Whole.{same_costs}
 use Rattle.flow_laws.proofs.Edges.{turn_number, among_number}
-use Rattle.flow_laws.proofs.Caps.{hit_same, most_is}
+use Rattle.flow_laws.proofs.Caps.{hit_same}
 use Rattle.flow_laws.proofs.Numbers.{Names, have_numbers, price_names, keeps_names}
 use Rattle.flow_laws.proofs.Walking.{to_walked, from_walked, walks_lead, one_walk}
 
@@ -55,14 +55,14 @@ all_node P Jump h = tt
 all_node P (Give e) h = tt
 all_node P (Enter t ls es) h = tt
 all_node P Missing h = tt
-all_node P (Land t ty) h = tt
+all_node P (Land t ty b) h = tt
 
 pub to_list : (P : LoopCopy → Type 0) (g : List Site) → EachLoop P g → AllOf P (loop_copies g)
 to_list P [] h = tt
 to_list P (s ∷ g) h =
     all_append P (loops_at s.content) (loop_copies g) (all_node P s.content (λ l e is. h 0 s l e refl is)) (to_list P g (λ i x l c has is. h (suc i) x l c has is))
 
-from_list : (P : LoopCopy → Type 0) (g : List Site) → AllOf P (loop_copies g) → EachLoop P g
+pub from_list : (P : LoopCopy → Type 0) (g : List Site) → AllOf P (loop_copies g) → EachLoop P g
 from_list P [] h i s l c has is = absurd (cc)
 from_list P (x ∷ g) h zero s l c has is =
     let same : x ≡ s = cc in
@@ -94,14 +94,14 @@ numbers_keep g i l c js q is names h =
     let same = keeps_names (edges g) a b (enters l) (turns l) (limit l) (into_is g l) (turn_is g i l c is) js q names None in
     counter_keeps a b (limit l) js None (same ∙ keeps_counter (enters l) (turns l) (limit l) q h)
 
-edges_keep : (g : List Site) (i : ℕ) (l : LoopCopy) (c : Expr) (js : List ℕ) (q : List Edge) → IsLoopAt g i l c → Names (edges g) js q → Keeps (loop_of g l) js → KeepsBy (enters l) (turns l) (limit l) q
+pub edges_keep : (g : List Site) (i : ℕ) (l : LoopCopy) (c : Expr) (js : List ℕ) (q : List Edge) → IsLoopAt g i l c → Names (edges g) js q → Keeps (loop_of g l) js → KeepsBy (enters l) (turns l) (limit l) q
 edges_keep g i l c js q is names h =
     let a : ℕ → Bool = λ j. is_among j (positions 0 (enters l) (edges g)) in
     let b : ℕ → Bool = λ j. j == first_out g l.test in
     let same = keeps_names (edges g) a b (enters l) (turns l) (limit l) (into_is g l) (turn_is g i l c is) js q names None in
     counter_keeps (enters l) (turns l) (limit l) q None (sym same ∙ keeps_counter a b (limit l) js h)
 
-each_to_all : (g : List Site) (ls : List LoopCopy) (js : List ℕ) → KeepsEach (map (loop_of g) ls) js → AllOf (λ l. Keeps (loop_of g l) js) ls
+pub each_to_all : (g : List Site) (ls : List LoopCopy) (js : List ℕ) → KeepsEach (map (loop_of g) ls) js → AllOf (λ l. Keeps (loop_of g l) js) ls
 each_to_all g [] js h = tt
 each_to_all g (l ∷ ls) js h = (h.0, each_to_all g ls js h.1)
 
@@ -193,9 +193,3 @@ count_visits g j e h [] (d ∷ q) names = absurd names
 count_visits g j e h (k ∷ js) [] names = absurd names
 count_visits g j e h (k ∷ js) (d ∷ q) names =
     count_step g j k e d (count js j) (visits e.from q) h names.0 (count_visits g j e h js q names.1) (k == j) refl
-
-pub within_caps : (p : Program) (i : Input) (js : List ℕ) → FuncsFair p.funcs → DrivesPath p i js → (j : ℕ) (e : Edge) → slice_get (edges (graph p)) j ≡ Some e → count js j ≤ cap_of (slice_get (graph p) e.from)
-within_caps p i js fair h j e is =
-    let d = path_driven p i js h in
-    let visited = caps_hold p i d.list e.from fair (driven_path p i js d) in
-    omega (arith, count_visits (graph p) j e is js d.list d.names, visited, most_is p e.from)

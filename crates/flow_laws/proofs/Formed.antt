@@ -11,8 +11,10 @@ use Rattle.flow_laws.specs.Graphs.{graph, edges, loops}
 use Rattle.flow_laws.specs.Paths.{count, total, leaving, arriving, cap_of, most_turns}
 use Rattle.flow_laws.specs.Claims.{EndsAt, DrivesPath, DrivesAt}
 use Rattle.flow_laws.proofs.Fair.{program_fair}
-use Rattle.flow_laws.proofs.Final.{run_to_path, path_to_run, within_caps}
-use Rattle.flow_laws.proofs.Rows.{loop_rows, entered_once, conserved}
+use Rattle.flow_laws.proofs.Final.{run_to_path, path_to_run}
+use Rattle.flow_laws.proofs.Conserved.{path_entry, path_nodes}
+use Rattle.flow_laws.proofs.LoopLaws.{kept_rows}
+use Rattle.flow_laws.proofs.KeptCaps.{kept_capped}
 
 pub to_path : (p : Program) (t : Costs) (i : Input) (n : ℕ) → WellFormed p → EndsAt p t i n → DrivesAt p t i n
 to_path p t i n h = run_to_path p t i n (program_fair p h)
@@ -20,14 +22,16 @@ to_path p t i n h = run_to_path p t i n (program_fair p h)
 pub to_run : (p : Program) (t : Costs) (i : Input) (n : ℕ) → WellFormed p → DrivesAt p t i n → EndsAt p t i n
 to_run p t i n h = path_to_run p t i n (program_fair p h)
 
+-- what holds of each path that keeps the bounds holds of those that are driven
+
 pub capped : (p : Program) (i : Input) (q : List ℕ) → WellFormed p → DrivesPath p i q → (j : ℕ) (e : Edge) → slice_get (edges (graph p)) j ≡ Some e → count q j ≤ cap_of (slice_get (graph p) e.from)
-capped p i q h = within_caps p i q (program_fair p h)
+capped p i q h d = kept_capped p q h d.path d.drives.keeps
 
 pub turned : (p : Program) (i : Input) (q : List ℕ) → WellFormed p → DrivesPath p i q → (k : ℕ) (l : Loop) → slice_get (loops (graph p)) k ≡ Some l → count q l.turn ≤ most_turns l * total q l.into
-turned p i q h = loop_rows p i q (program_fair p h)
+turned p i q h d = kept_rows p q d.path d.drives.keeps
 
 pub entered : (p : Program) (i : Input) (q : List ℕ) → WellFormed p → DrivesPath p i q → count q 0 ≡ 1
-entered p i q h = entered_once p i q (program_fair p h)
+entered p i q h d = path_entry p q h d.path
 
 pub passed : (p : Program) (i : Input) (q : List ℕ) → WellFormed p → DrivesPath p i q → (n : ℕ) → 2 ≤ n → leaving (edges (graph p)) q n ≡ arriving (edges (graph p)) q n
-passed p i q h = conserved p i q
+passed p i q h d = path_nodes p q d.path

@@ -138,7 +138,7 @@ shuts_call p w (Some c) (Some f) t es b n k ins h =
     let a1 = tally_append p (join ins n) (x.edges ++ join (x.next ++ x.returns) landing) in
     let a2 = tally_append p x.edges (join (x.next ++ x.returns) landing) in
     let a3 = tally_join p x.next x.returns landing in
-    let o1 = out_append p (n + 1) landing inner (one w (Land t c.result) None k.next ∷ []) (omega (arith, h.size_is chain w.scale (n + 1) landing)) in
+    let o1 = out_append p (n + 1) landing inner (one w (Land t c.result b) None k.next ∷ []) (omega (arith, h.size_is chain w.scale (n + 1) landing)) in
     omega (arith, h.shuts p chain w.scale (n + 1) landing (end_at n Next ∷ []), b1, b2, a1, a2, a3, o1)
 
 -- ---- lists, after the simple statements ss of the block at n

@@ -119,8 +119,8 @@ some_turn l h = omega arith
 -- ---- calls
 
 -- the landing assigns the result
-land_leads : (w : Position) (g : List Site) (x0 lo hi n : ℕ) (k : Targets) (t : Target) (ty : Option Ty) (ls : List Slot) (fs : List (List Slot)) (locals gs : List Slot) (value : Option Value) (left : Counters) → lo ≤ n → n < hi → slice_get g n ≡ Some (one w (Land t ty) None k.next) → (r : Option Value) → result_of ty value ≡ r → Leads g x0 (hit x0 n) lo hi k (at n (memory (record { locals = locals; globals = gs }) (ls ∷ fs) value) left) fs (give t r (record { locals = ls; globals = gs }))
-land_leads w g x0 lo hi n k t ty ls fs locals gs value left le lt has r er = by_target t r has er
+land_leads : (w : Position) (g : List Site) (x0 lo hi n : ℕ) (k : Targets) (t : Target) (ty : Option Ty) (call_block : BlockName) (ls : List Slot) (fs : List (List Slot)) (locals gs : List Slot) (value : Option Value) (left : Counters) → lo ≤ n → n < hi → slice_get g n ≡ Some (one w (Land t ty call_block) None k.next) → (r : Option Value) → result_of ty value ≡ r → Leads g x0 (hit x0 n) lo hi k (at n (memory (record { locals = locals; globals = gs }) (ls ∷ fs) value) left) fs (give t r (record { locals = ls; globals = gs }))
+land_leads w g x0 lo hi n k t ty call_block ls fs locals gs value left le lt has r er = by_target t r has er
   where
     m : Memory
     m = memory (record { locals = locals; globals = gs }) (ls ∷ fs) value
@@ -128,14 +128,14 @@ land_leads w g x0 lo hi n k t ty ls fs locals gs value left le lt has r er = by_
     s : Store
     s = record { locals = ls; globals = gs }
 
-    goes : (t : Target) (s1 : Store) → slice_get g n ≡ Some (one w (Land t ty) None k.next) → land t (result_of ty value) ls fs gs ≡ Goes Next (memory s1 fs None) → Leads g x0 (hit x0 n) lo hi k (at n m left) fs (Ends [] s1 way.Next)
+    goes : (t : Target) (s1 : Store) → slice_get g n ≡ Some (one w (Land t ty call_block) None k.next) → land t (result_of ty value) ls fs gs ≡ Goes Next (memory s1 fs None) → Leads g x0 (hit x0 n) lo hi k (at n m left) fs (Ends [] s1 way.Next)
     goes t s1 has e =
-        step_leads g x0 0 (hit x0 n) lo hi k n m (memory s1 fs None) left fs (one w (Land t ty) None k.next) Next (Ends [] s1 way.Next) (omega arith) le lt has e refl (here_leads g x0 0 lo hi k.next k s1 fs (passed (edge n Next k.next) left) refl)
+        step_leads g x0 0 (hit x0 n) lo hi k n m (memory s1 fs None) left fs (one w (Land t ty call_block) None k.next) Next (Ends [] s1 way.Next) (omega arith) le lt has e refl (here_leads g x0 0 lo hi k.next k s1 fs (passed (edge n Next k.next) left) refl)
 
-    sticks : (t : Target) → slice_get g n ≡ Some (one w (Land t ty) None k.next) → land t (result_of ty value) ls fs gs ≡ Stuck → Halts g (at n m left) Undefined_
-    sticks t has e = halts_here g (at n m left) Undefined_ (status_stuck g n m left (one w (Land t ty) None k.next) has e)
+    sticks : (t : Target) → slice_get g n ≡ Some (one w (Land t ty call_block) None k.next) → land t (result_of ty value) ls fs gs ≡ Stuck → Halts g (at n m left) Undefined_
+    sticks t has e = halts_here g (at n m left) Undefined_ (status_stuck g n m left (one w (Land t ty call_block) None k.next) has e)
 
-    by_target : (t : Target) (r : Option Value) → slice_get g n ≡ Some (one w (Land t ty) None k.next) → result_of ty value ≡ r → Leads g x0 (hit x0 n) lo hi k (at n m left) fs (give t r s)
+    by_target : (t : Target) (r : Option Value) → slice_get g n ≡ Some (one w (Land t ty call_block) None k.next) → result_of ty value ≡ r → Leads g x0 (hit x0 n) lo hi k (at n m left) fs (give t r s)
     by_target Nothing r has er = goes Nothing s has refl
     by_target (Into x) None has er = sticks (Into x) has (ap (λ r. land (Into x) r ls fs gs) er)
     by_target (Into x) (Some v) has er =
@@ -145,14 +145,14 @@ land_leads w g x0 lo hi n k t ty ls fs locals gs value left le lt has r er = by_
         goes (Declare l) (put_number s (Local l) v) has (ap (λ r. land (Declare l) r ls fs gs) er)
 
 -- what a copy comes back with, and its landing
-back_leads : (w : Position) (g : List Site) (x d n z : ℕ) (k : Targets) (t : Target) (ty : Option Ty) (s : Store) (fs : List (List Slot)) (a : State) (back : Back) → slice_get g (n + 1 + z) ≡ Some (one w (Land t ty) None k.next) → BackLeads g x d (n + 1) (n + 1 + z) (n + 1 + z) a (s.locals ∷ fs) ty back → Leads g x (d + hit x (n + 1 + z)) n (n + suc (suc z)) k a fs (come_back t s back)
-back_leads w g x d n z k t ty s fs a (Gives u gs r) has h =
+back_leads : (w : Position) (g : List Site) (x d n z : ℕ) (k : Targets) (t : Target) (ty : Option Ty) (call_block : BlockName) (s : Store) (fs : List (List Slot)) (a : State) (back : Back) → slice_get g (n + 1 + z) ≡ Some (one w (Land t ty call_block) None k.next) → BackLeads g x d (n + 1) (n + 1 + z) (n + 1 + z) a (s.locals ∷ fs) ty back → Leads g x (d + hit x (n + 1 + z)) n (n + suc (suc z)) k a fs (come_back t s back)
+back_leads w g x d n z k t ty call_block s fs a (Gives u gs r) has h =
     let landing = n + 1 + z in
     let b : State = at landing (memory (record { locals = h.locals; globals = gs }) (s.locals ∷ fs) h.value) h.reaches.left in
-    before g x d (hit x landing) n (n + suc (suc z)) k h.reaches.path a b fs u (give t r (with_globals s gs)) h.reaches.driven (within_wider (n + 1) landing n (n + suc (suc z)) h.reaches.path (omega arith) (omega arith) h.reaches.within) h.reaches.trace h.reaches.capped (land_leads w g x n (n + suc (suc z)) landing k t ty s.locals fs h.locals gs h.value h.reaches.left (omega arith) (omega arith) has r (sym h.result_is))
-back_leads w g x d n z k t ty s fs a (Lost (Ends u s1 y)) has h = absurd h
-back_leads w g x d n z k t ty s fs a (Lost Undefined) has h = h
-back_leads w g x d n z k t ty s fs a (Lost OverBound) has h = h
+    before g x d (hit x landing) n (n + suc (suc z)) k h.reaches.path a b fs u (give t r (with_globals s gs)) h.reaches.driven (within_wider (n + 1) landing n (n + suc (suc z)) h.reaches.path (omega arith) (omega arith) h.reaches.within) h.reaches.trace h.reaches.capped (land_leads w g x n (n + suc (suc z)) landing k t ty call_block s.locals fs h.locals gs h.value h.reaches.left (omega arith) (omega arith) has r (sym h.result_is))
+back_leads w g x d n z k t ty call_block s fs a (Lost (Ends u s1 y)) has h = absurd h
+back_leads w g x d n z k t ty call_block s fs a (Lost Undefined) has h = h
+back_leads w g x d n z k t ty call_block s fs a (Lost OverBound) has h = h
 
 call_whole : (w : Position) (g : List Site) (x n : ℕ) (most : ℕ → ℕ → ℕ) (k : Targets) (o : Option Copy) (y : Option Callee) (t : Target) (es : List Expr) (b : BlockName) (s : Store) (fs : List (List Slot)) (left : Counters) → Matched g o y most → HasAt g n (call_sites w o t es b n k.next) → Claim g x (call_once most o x n) n (call_size o) k s fs left (after (b ∷ []) (call y t (all_values es (unset_target t s)) (unset_target t s)))
 call_whole w g x n most k None (Some y) t es b s fs left m has = absurd m
@@ -184,9 +184,9 @@ call_whole w g x n most k (Some c) (Some y) t es b s fs left m has = λ fresh. b
     by_values (Some vs) ev =
         let left1 = passed (edge n Next (head c.size (n + 1) landing)) left in
         let a1 : State = at (head c.size (n + 1) landing) (start vs) left1 in
-        let land_at = (has_back g (n + 1) landing (c.sites chain w.scale (n + 1) landing) (one w (Land t c.result) None k.next ∷ []) (omega (arith, m.size_is chain w.scale (n + 1) landing)) has.1).0 in
-        let copy = m.leads chain w.scale x (n + 1) landing (has_front g (n + 1) (c.sites chain w.scale (n + 1) landing) (one w (Land t c.result) None k.next ∷ []) has.1) vs s'.globals (s'.locals ∷ fs) left1 (fresh_above n (n + 1) (n + 1 + c.size) (head c.size (n + 1) landing) Next (start vs) left (omega arith)) in
-        step_leads g x (most x (n + 1) + hit x landing) (call_once most (Some c) x n) n (n + suc (suc c.size)) k n (memory s fs None) (start vs) left fs enter Next (come_back t s' (y vs s'.globals)) (omega arith) (omega arith) (omega arith) has.0 (ap moves ev) refl (back_leads w g x (most x (n + 1)) n c.size k t c.result s' fs a1 (y vs s'.globals) land_at copy)
+        let land_at = (has_back g (n + 1) landing (c.sites chain w.scale (n + 1) landing) (one w (Land t c.result b) None k.next ∷ []) (omega (arith, m.size_is chain w.scale (n + 1) landing)) has.1).0 in
+        let copy = m.leads chain w.scale x (n + 1) landing (has_front g (n + 1) (c.sites chain w.scale (n + 1) landing) (one w (Land t c.result b) None k.next ∷ []) has.1) vs s'.globals (s'.locals ∷ fs) left1 (fresh_above n (n + 1) (n + 1 + c.size) (head c.size (n + 1) landing) Next (start vs) left (omega arith)) in
+        step_leads g x (most x (n + 1) + hit x landing) (call_once most (Some c) x n) n (n + suc (suc c.size)) k n (memory s fs None) (start vs) left fs enter Next (come_back t s' (y vs s'.globals)) (omega arith) (omega arith) (omega arith) has.0 (ap moves ev) refl (back_leads w g x (most x (n + 1)) n c.size k t c.result b s' fs a1 (y vs s'.globals) land_at copy)
 
 -- ---- whole statements, over claims of their parts
 

@@ -84,7 +84,7 @@ flush_length w (s ∷ ss) b t m xs e = ap suc e
 call_length : (w : Position) (o : Option Copy) (t : Target) (es : List Expr) (b : BlockName) (n next : ℕ) → ((c : Copy) → o ≡ Some c → (h : List BlockName) (s n l : ℕ) → length (c.sites h s n l) ≡ c.size) → length (call_sites w o t es b n next) ≡ call_size o
 call_length w None t es b n next h = refl
 call_length w (Some c) t es b n next h =
-    omega (arith, length-append (c.sites (w.chain ++ b ∷ []) w.scale (n + 1) (n + 1 + c.size)) (one w (Land t c.result) None next ∷ []), h c refl (w.chain ++ b ∷ []) w.scale (n + 1) (n + 1 + c.size))
+    omega (arith, length-append (c.sites (w.chain ++ b ∷ []) w.scale (n + 1) (n + 1 + c.size)) (one w (Land t c.result b) None next ∷ []), h c refl (w.chain ++ b ∷ []) w.scale (n + 1) (n + 1 + c.size))
 
 pub passed_length : (ss : List Stmt) (st : Stmt) (r : Bool → ℕ) (len z : ℕ) → z ≡ begun (is_run ss) → len ≡ spanned (ss ++ st ∷ []) (r (is_run (ss ++ st ∷ []))) → len ≡ spanned ss (z + r true)
 passed_length [] st r len z e h = let p : suc (r true) ≡ z + r true = omega (arith, e) in h ∙ p

@@ -55,7 +55,7 @@ call_turned : (w : Position) (o : Option Copy) (t : Target) (es : List Expr) (b 
 call_turned w None t es b n next h k = (tt, (tt, tt))
 call_turned w (Some c) t es b n next h k =
     let landing = n + 1 + c.size in
-    (tt, let chain = w.chain ++ b ∷ [] in turned_append (n + 1) landing (c.sites chain w.scale (n + 1) landing) (one w (Land t c.result) None next ∷ []) (omega (arith, h c refl chain w.scale (n + 1) landing)) (k c refl chain w.scale (n + 1) landing) (tt, tt))
+    (tt, let chain = w.chain ++ b ∷ [] in turned_append (n + 1) landing (c.sites chain w.scale (n + 1) landing) (one w (Land t c.result b) None next ∷ []) (omega (arith, h c refl chain w.scale (n + 1) landing)) (k c refl chain w.scale (n + 1) landing) (tt, tt))
 
 row_turned_choose : (w : Position) (n n1 n2 t : ℕ) (ss : List Stmt) (b : BlockName) (p q1 q2 : List Site) (st : Stmt) → n1 ≡ past ss n → AllTested n p → (is_simple st ≡ false → n1 + length q1 ≡ n2) → (is_simple st ≡ false → AllTested n1 q1) → AllTested n2 q2 → (c : Bool) → is_simple st ≡ c → AllTested n (if c then p else flush w ss b t ++ (q1 ++ q2))
 row_turned_choose w n n1 n2 t ss b p q1 q2 st e hp len h1 h2 true is = hp

@@ -43,7 +43,7 @@ call_weighs w (Some c) f t es b n next x sizes weights =
     let landing = n + 1 + c.size in
     let chain = w.chain ++ b ∷ [] in
     let inner = c.sites chain w.scale (n + 1) landing in
-    let split = weigh_append x (n + 1) landing inner (one w (Land t c.result) None next ∷ []) (omega (arith, sizes c refl chain w.scale (n + 1) landing)) in
+    let split = weigh_append x (n + 1) landing inner (one w (Land t c.result b) None next ∷ []) (omega (arith, sizes c refl chain w.scale (n + 1) landing)) in
     omega (arith, split, weights c refl chain w.scale (n + 1) landing x)
 
 if_weighs : (w : Position) (e : Expr) (b : BlockName) (n m r next x mp mq : ℕ) (p q : List Site) → length p ≡ m → weigh x (n + 1) p ≡ w.scale * mp → weigh x (n + 1 + m) q ≡ w.scale * mq → weigh x n (if_sites w e b n m r next p q) ≡ w.scale * (hit x n + (mp + mq))

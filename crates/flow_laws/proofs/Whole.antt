@@ -176,21 +176,3 @@ same_costs p t i n fair = record {
   to_path = λ h. let r = (paths p i fair).ends h.0 h.1 in (r.0, r.1, price_is t (graph p) r.0 ∙ ap (cost t) r.2 ∙ h.2);
   to_run = λ h. (trace_of (graph p) h.0, (paths p i fair).driven h.0 h.1, sym (price_is t (graph p) h.0) ∙ h.2);
 }
-
--- ---- caps
-
-path_capped : (x d : ℕ) (p : Program) (a : State) (q : List Edge) (r : Run) → DrivenPath (graph p) a q → RunLeads (graph p) x d a r → visits x q ≤ d
-path_capped x d p a q (Ended t) dp h =
-    let g = graph p in
-    let same = one_end g q h.path a dp.last h.last dp.driven h.driven (quiet_last (status g dp.last) (exit_quiet p dp.last dp.at_exit)) (quiet_last (status g h.last) (exit_quiet p h.last h.at_exit)) in
-    subst (λ y. visits x y ≤ d) (sym same.paths) h.capped
-path_capped x d p a q IsUndefined dp h =
-    let bad : IsUndefined ≡ Ended (trace_of (graph p) q) = only_end x d p a q IsUndefined dp h in
-    absurd (cc)
-path_capped x d p a q IsOverBound dp h =
-    let bad : IsOverBound ≡ Ended (trace_of (graph p) q) = only_end x d p a q IsOverBound dp h in
-    absurd (cc)
-
--- each node of a driven path is left at most as often as its cap
-pub caps_hold : (p : Program) (i : Input) (q : List Edge) (x : ℕ) → FuncsFair p.funcs → DrivenPath (graph p) (first_state p i) q → visits x q ≤ most p x
-caps_hold p i q x fair d = path_capped x (most p x) p (first_state p i) q (run p i) d (run_leads x p i fair)

@@ -1,5 +1,7 @@
 pub mod Sites
 pub mod Graphs
+pub mod Loops
+pub mod BlockLists
 pub mod Paths
 pub mod Driving
 pub mod Claims

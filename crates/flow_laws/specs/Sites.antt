@@ -31,7 +31,7 @@ pub data Content : Type 0 where
   Give : (e : Option Expr) → Content
   Enter : (target : Target) (locals : List Local) (es : List Expr) → Content
   Missing : Content
-  Land : (target : Target) (ty : Option Ty) → Content
+  Land : (target : Target) (ty : Option Ty) (call : BlockName) → Content
 
 -- a node, what it does, and where its `True` or its `Next` leads (`yes`) and its `False` (`no`)
 pub record Site : Type 0 where
@@ -108,7 +108,7 @@ call_sites w None t es b n next =
     one w Missing (Some b) (n + 1) ∷ (one w Missing None next ∷ [])
 call_sites w (Some c) t es b n next =
     let landing = n + 1 + c.size in
-    one w (Enter t c.locals es) (Some b) (head c.size (n + 1) landing) ∷ (c.sites (w.chain ++ b ∷ []) w.scale (n + 1) landing ++ one w (Land t c.result) None next ∷ [])
+    one w (Enter t c.locals es) (Some b) (head c.size (n + 1) landing) ∷ (c.sites (w.chain ++ b ∷ []) w.scale (n + 1) landing ++ one w (Land t c.result b) None next ∷ [])
 
 -- ---- conditions and loops
 

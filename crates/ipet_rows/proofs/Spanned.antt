@@ -70,7 +70,7 @@ module _ (t : Costs) (small : AreSmall t) (g : List Site) where
   outs_within n s is (Give e) = omega (arith, edge_within n s is Next s.yes)
   outs_within n s is (Enter x ls es) = omega (arith, edge_within n s is Next s.yes)
   outs_within n s is Missing = omega (arith, edge_within n s is Next s.yes)
-  outs_within n s is (Land x ty) = omega (arith, edge_within n s is Next s.yes)
+  outs_within n s is (Land x ty b) = omega (arith, edge_within n s is Next s.yes)
 
   edges_within : (n : ℕ) (h : List Site) → ((k : ℕ) (s : Site) → slice_get h k ≡ Some s → slice_get g (n + k) ≡ Some s) → cost_at_caps t g (edges_from n h) ≤ 2 ^ 33 * copy_caps h
   edges_within n [] at = omega arith

@@ -1,4 +1,5 @@
 use Rattle.flow_laws.proofs.laws.graphs.nested_loops.Goals as goal
+use Rattle.flow_laws.proofs.WorkedDriving.{nested_loops-for_copies, nested_loops-do_copies}
 use Rattle.flow_laws.proofs.WorkedGraphs.{nested_loops-for_edges, nested_loops-for_loops, nested_loops-for_caps, nested_loops-do_edges, nested_loops-do_loops, nested_loops-do_caps}
 
 pub returns-clause-for_edges : goal.returns-clause-for_edges
@@ -18,3 +19,9 @@ returns-clause-do_loops c = nested_loops-do_loops
 
 pub returns-clause-do_caps : goal.returns-clause-do_caps
 returns-clause-do_caps c = nested_loops-do_caps
+
+pub returns-clause-for_copies : goal.returns-clause-for_copies
+returns-clause-for_copies c = nested_loops-for_copies
+
+pub returns-clause-do_copies : goal.returns-clause-do_copies
+returns-clause-do_copies c = nested_loops-do_copies

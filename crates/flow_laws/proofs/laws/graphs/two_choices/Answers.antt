@@ -1,4 +1,5 @@
 use Rattle.flow_laws.proofs.laws.graphs.two_choices.Goals as goal
+use Rattle.flow_laws.proofs.WorkedDriving.{two_choices-leaving, two_choices-arriving, two_choices-into_exit, two_choices-statements, two_choices-many}
 use Rattle.flow_laws.proofs.WorkedGraphs.{two_choices-edges, two_choices-blocks, two_choices-caps, two_choices-path, two_choices-price, two_choices-broken, two_choices-entry_costs_nothing, two_choices-guard}
 
 pub returns-clause-edges : goal.returns-clause-edges
@@ -24,3 +25,18 @@ returns-clause-entry_costs_nothing c = two_choices-entry_costs_nothing
 
 pub returns-clause-guard : goal.returns-clause-guard
 returns-clause-guard c = two_choices-guard
+
+pub returns-clause-leaving : goal.returns-clause-leaving
+returns-clause-leaving c = two_choices-leaving
+
+pub returns-clause-arriving : goal.returns-clause-arriving
+returns-clause-arriving c = two_choices-arriving
+
+pub returns-clause-into_exit : goal.returns-clause-into_exit
+returns-clause-into_exit c = two_choices-into_exit
+
+pub returns-clause-statements : goal.returns-clause-statements
+returns-clause-statements c = two_choices-statements
+
+pub returns-clause-many : goal.returns-clause-many
+returns-clause-many c = two_choices-many
