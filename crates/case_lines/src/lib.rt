@@ -2,6 +2,10 @@
 //! a part. Lines that are empty or begin with `//` are headings, and a test program writes them as they are.
 #![tactic(auto)]
 
+mod bytes;
+
+pub use bytes::{CaseFault, bytes_of};
+
 use std::alloc::{AllocError, Global};
 
 /// Whether a line is a heading, and so no case.
