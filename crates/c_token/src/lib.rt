@@ -22,5 +22,3 @@ pub use fault::TokenFault;
 pub use law::{in_order, one_reading, separated};
 pub use scanner::tokens;
 
-#[cfg(test)]
-mod tests;
