@@ -23,9 +23,9 @@ impl From<AllocError> for CaseFault {
     }
 }
 
-/// The bytes of a part: a line feed for each `@`, the byte of this number for each `\` and two hexadecimal digits, and for
-/// `\[`, a count, a blank, a piece and `\]` the piece so many times; any other character stands for itself. `Form` comes
-/// where a `\` begins none of these.
+/// The bytes of a part: a line feed for each `@`, the byte of this number for each `\` and two hexadecimal digits, and
+/// for `\[`, a count, a blank, a piece and `\]` the piece so many times; any other character stands for itself. `Form`
+/// comes where a `\` begins none of these.
 pub fn bytes_of(alloc: Global, part: &str) -> Result<Vec<u8>, CaseFault> {
     let mut bytes = Vec::new(alloc);
     for (number, piece) in part.split("\\[").enumerate() {

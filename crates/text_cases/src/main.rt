@@ -1,6 +1,6 @@
-//! Cases of texts. A case has its kind and a text: `tokens` asks for the tokens with their places, `count` how many tokens
-//! there are, `tree` for the tree, each name and number with its place and a pair of brackets round each part, and `read`
-//! whether there is a tree. The answer is that, or the first fault and its place.
+//! Cases of texts. A case has its kind and a text: `tokens` asks for the tokens with their places, `count` how many
+//! tokens there are, `tree` for the tree, each name and number with its place and a pair of brackets round each part,
+//! and `read` whether there is a tree. The answer is that, or the first fault and its place.
 #![tactic(auto)]
 
 mod answer;

@@ -1,7 +1,7 @@
-//! Cases of the top call. A case has its words, with a blank between them, the program `f.c`, the table `t.toml`, the numbers
-//! of the reads that fail, and how many bytes a write takes with the numbers of the writes that fail; calls are counted from 0.
-//! Parts that are wanting are empty, and a case that has words alone is over the real files beside the program. The answer is
-//! the status and what was written.
+//! Cases of the top call. A case has its words, with a blank between them, the program `f.c`, the table `t.toml`, the
+//! numbers of the reads that fail, and how many bytes a write takes with the numbers of the writes that fail; calls
+//! are counted from 0. Parts that are wanting are empty, and a case that has words alone is over the real files beside
+//! the program. The answer is the status and what was written.
 #![tactic(auto)]
 
 mod case;
