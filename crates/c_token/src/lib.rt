@@ -21,6 +21,3 @@ pub use c_tree::{Kind, Token};
 pub use fault::TokenFault;
 pub use law::{in_order, one_reading, separated};
 pub use scanner::tokens;
-
-#[cfg(test)]
-mod tests;

@@ -1,7 +1,11 @@
-//! Lines of the files of cases that test programs read. A case is a line with ` ## ` between its parts and `@` for a line feed in
-//! a part. Lines that are empty or begin with `//` are headings, and a test program writes them as they are.
+//! Lines of the files of cases that test programs read. A case is a line with ` ## ` between its parts and `@` for a
+//! line feed in a part. Lines that are empty or begin with `//` are headings, and a test program writes them as they
+//! are.
 #![tactic(auto)]
 
+mod bytes;
+
+pub use bytes::{CaseFault, bytes_of};
 use std::alloc::{AllocError, Global};
 
 /// Whether a line is a heading, and so no case.

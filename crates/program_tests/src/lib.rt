@@ -14,8 +14,6 @@ mod copies;
 #[cfg(test)]
 mod examples;
 #[cfg(test)]
-mod grammar;
-#[cfg(test)]
 mod plans;
 #[cfg(test)]
 mod prints;

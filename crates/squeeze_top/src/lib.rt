@@ -14,8 +14,6 @@ mod pricing;
 mod reading;
 mod refusal;
 mod status;
-#[cfg(test)]
-mod tests;
 mod top;
 mod words;
 mod work;

@@ -4,7 +4,7 @@ use c_tree::{BinOp, RawExpr, Spot, Ty, UnOp};
 use std::alloc::AllocError;
 
 /// How a binary operator is written.
-pub(super) fn sign(op: BinOp) -> &'static str {
+pub fn sign(op: BinOp) -> &'static str {
     match op {
         BinOp::Mul => "*",
         BinOp::Div => "/",
@@ -37,7 +37,7 @@ fn unary_sign(op: UnOp) -> &'static str {
 }
 
 /// How a type is written.
-pub(super) fn type_word(ty: Ty) -> &'static str {
+pub fn type_word(ty: Ty) -> &'static str {
     match ty {
         Ty::Int => "int",
         Ty::Unsigned => "unsigned",
@@ -45,13 +45,13 @@ pub(super) fn type_word(ty: Ty) -> &'static str {
 }
 
 /// A place.
-pub(super) fn place(out: &mut String, at: u32) -> Result<(), AllocError> {
+pub fn place(out: &mut String, at: u32) -> Result<(), AllocError> {
     let digits = format!(in *out.allocator(); "@{at}")?;
     out.push_str(digits.as_str())
 }
 
 /// A name and its place.
-pub(super) fn spot(out: &mut String, x: &Spot) -> Result<(), AllocError> {
+pub fn spot(out: &mut String, x: &Spot) -> Result<(), AllocError> {
     for byte in x.name.as_slice() {
         out.push(char::from(*byte))?;
     }
@@ -86,7 +86,7 @@ fn after(out: &mut String, before: &str, a: &RawExpr) -> Result<(), AllocError> 
 
 /// An expression.
 #[cycle(expr)]
-pub(super) fn expr(out: &mut String, a: &RawExpr) -> Result<(), AllocError> {
+pub fn expr(out: &mut String, a: &RawExpr) -> Result<(), AllocError> {
     match a {
         RawExpr::Num(at, ty, value) => number(out, *at, *ty, *value),
         RawExpr::Name(x) => spot(out, x),

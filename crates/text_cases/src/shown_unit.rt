@@ -1,7 +1,7 @@
 //! Statements and declarations as texts: every name with its place, `const` and `static` where they are kept, the bound
 //! of a loop before it, and braces round each list.
 
-use super::shown_expr::{expr, place, sign, spot, type_word};
+use crate::shown_expr::{expr, place, sign, spot, type_word};
 use c_tree::{
     RawBound, RawExpr, RawFunc, RawPlace, RawShape, RawStmt, RawTarget, RawTop, Spot, Ty, Unit,
 };
@@ -245,7 +245,7 @@ fn top(out: &mut String, top: &RawTop) -> Result<(), AllocError> {
 }
 
 /// The tree of a unit, after its end.
-pub(super) fn shown(alloc: Global, unit: &Unit) -> Result<String, AllocError> {
+pub fn shown(alloc: Global, unit: &Unit) -> Result<String, AllocError> {
     let mut out = format!(in alloc; "{}:", unit.end)?;
     for one in unit.tops.as_slice() {
         top(&mut out, one)?;
