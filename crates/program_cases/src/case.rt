@@ -22,15 +22,19 @@ impl<'l> Case<'l> {
     /// The case on a line.
     pub(crate) fn of(alloc: Global, line: &'l str) -> Result<Case<'l>, AllocError> {
         let parts = parts(alloc, line)?;
-        let part = |n: usize| parts.get(n).copied().unwrap_or("");
         Ok(Case {
-            call: part(0),
-            text: part(1),
-            given: part(2),
-            entry: entry_of(part(3)),
-            table: part(4),
+            call: part(&parts, 0),
+            text: part(&parts, 1),
+            given: part(&parts, 2),
+            entry: entry_of(part(&parts, 3)),
+            table: part(&parts, 4),
         })
     }
+}
+
+// The part number n, or nothing.
+fn part<'l>(parts: &[&'l str], n: usize) -> &'l str {
+    parts.get(n).copied().unwrap_or("")
 }
 
 fn entry_of(part: &str) -> &str {
