@@ -74,10 +74,10 @@ fn answered(alloc: Global, case: &Case) -> Result<String, Fault> {
         "fits" => inputs::fitting(alloc, case),
         "plan" => plans::planned(alloc, case),
         "edges" => plans::joined(alloc, case),
-        "nodes" => plans::nodes(alloc, case),
+        "nodes" => plans::placed(alloc, case),
         "parts" => plans::parts(alloc, case),
         "list of edges" => plans::judged(alloc, case),
-        "edge costs" => plans::edge_costs(alloc, case),
+        "edge costs" => plans::priced(alloc, case),
         _ => rows::answered(alloc, case),
     }
 }

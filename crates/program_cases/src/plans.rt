@@ -85,8 +85,12 @@ fn loop_copy(alloc: Global, copy: &Loop) -> Result<String, AllocError> {
 }
 
 /// The nodes in order: the block, or `-` for Entry, Exit and landings, and the calls in which it stands, outermost first.
-pub(crate) fn nodes(alloc: Global, case: &Case) -> Result<String, Fault> {
+pub(crate) fn placed(alloc: Global, case: &Case) -> Result<String, Fault> {
     let plan = plan_of(alloc, case, "")?;
+    Ok(nodes(alloc, &plan)?)
+}
+
+fn nodes(alloc: Global, plan: &Plan) -> Result<String, AllocError> {
     let mut text = String::new(alloc);
     for n in 0..plan.nodes() {
         push_apart(&mut text, " ", node(alloc, plan.node(n))?.as_str())?;
@@ -130,8 +134,12 @@ pub(crate) fn judged(alloc: Global, case: &Case) -> Result<String, Fault> {
 }
 
 /// What each edge costs with the given table.
-pub(crate) fn edge_costs(alloc: Global, case: &Case) -> Result<String, Fault> {
+pub(crate) fn priced(alloc: Global, case: &Case) -> Result<String, Fault> {
     let plan = plan_of(alloc, case, case.given)?;
+    Ok(edge_costs(alloc, &plan)?)
+}
+
+fn edge_costs(alloc: Global, plan: &Plan) -> Result<String, AllocError> {
     let mut text = String::new(alloc);
     for e in 0..plan.edges() as u16 {
         let cost = plan.cost(e);
