@@ -47,5 +47,5 @@ fn entry_of(part: &str) -> &str {
 
 /// A number of at most 2^32 - 1.
 pub(crate) fn number(part: &str) -> Result<u32, Fault> {
-    part.parse::<u32>().map_err(|_| Fault::Line("no number"))
+    part.parse::<u32>().ok().ok_or(Fault::Line("no number"))
 }

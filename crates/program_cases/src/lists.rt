@@ -25,8 +25,8 @@ pub(crate) fn listed<T: fmt::Display>(alloc: Global, items: &[T]) -> Result<Stri
 pub(crate) fn numbers(alloc: Global, part: &str) -> Result<Vec<i64>, Fault> {
     let mut list = Vec::new(alloc);
     for word in part.split(' ') {
-        let number = word.parse::<i64>();
-        list.push(number.map_err(|_| Fault::Line("no number"))?)?;
+        let number = word.parse::<i64>().ok();
+        list.push(number.ok_or(Fault::Line("no number"))?)?;
     }
     Ok(list)
 }
@@ -35,8 +35,8 @@ pub(crate) fn numbers(alloc: Global, part: &str) -> Result<Vec<i64>, Fault> {
 pub(crate) fn edge_numbers(alloc: Global, part: &str) -> Result<Vec<u16>, Fault> {
     let mut list = Vec::new(alloc);
     for word in part.split(' ') {
-        let number = word.parse::<u16>();
-        list.push(number.map_err(|_| Fault::Line("no number of an edge"))?)?;
+        let number = word.parse::<u16>().ok();
+        list.push(number.ok_or(Fault::Line("no number of an edge"))?)?;
     }
     Ok(list)
 }

@@ -17,9 +17,8 @@ use typed_laws::program_is_well_formed;
 pub(crate) fn answered(alloc: Global, case: &Case) -> Result<String, Fault> {
     match case.call {
         "rows" => rows_of(alloc, case),
-        "count of rows" => row_count(alloc, case),
         "one row more" => count_with_one_more(alloc, case),
-        "edges of rows" => edge_counts(alloc, case),
+        "size of rows" => size(alloc, case),
         "objective" => objective(alloc, case),
         "bound by caps" => bound(alloc, case),
         "box" => limits(alloc, case),
@@ -54,14 +53,6 @@ fn row(alloc: Global, row: &Row) -> Result<String, AllocError> {
     };
     let right = row.right;
     format!(in alloc; "{text} {kind} {right}")
-}
-
-// How many rows there are.
-fn row_count(alloc: Global, case: &Case) -> Result<String, Fault> {
-    let plan = plan_of(alloc, case, "")?;
-    let sound = rows(alloc, &plan)?;
-    let count = sound.rows().rows().len();
-    Ok(format!(in alloc; "{count}")?)
 }
 
 // The row that edge 0 is taken at most once.
@@ -99,13 +90,14 @@ fn count_with_one_more(alloc: Global, case: &Case) -> Result<String, Fault> {
     Ok(format!(in alloc; "{count}")?)
 }
 
-// How many edges the rows are over, by themselves and by their plan.
-fn edge_counts(alloc: Global, case: &Case) -> Result<String, Fault> {
+// How many rows there are, and over how many edges they are, by themselves and by their plan.
+fn size(alloc: Global, case: &Case) -> Result<String, Fault> {
     let plan = plan_of(alloc, case, "")?;
     let sound = rows(alloc, &plan)?;
+    let count = sound.rows().rows().len();
     let edges = sound.rows().edges;
     let of_plan = sound.plan().edges();
-    Ok(format!(in alloc; "{edges} {of_plan}")?)
+    Ok(format!(in alloc; "{count} rows, {edges} edges of {of_plan}")?)
 }
 
 // What each edge costs with the given table.

@@ -58,7 +58,9 @@ fn bytes(alloc: Global, part: &str) -> Result<Vec<u8>, Fault> {
 }
 
 fn byte(digits: &str) -> Result<u8, Fault> {
-    u8::from_str_radix(digits, 16).map_err(|_| Fault::Line("no byte"))
+    u8::from_str_radix(digits, 16)
+        .ok()
+        .ok_or(Fault::Line("no byte"))
 }
 
 // Puts the bytes of a text at the end, a line feed for each `@`.

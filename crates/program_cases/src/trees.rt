@@ -45,11 +45,13 @@ pub(crate) fn expression(alloc: Global, case: &Case) -> Result<String, Fault> {
     let whole = format!(in alloc; "{BEFORE}{expression}{BEHIND}")?;
     let program = program_of(alloc, whole.as_bytes(), "main")?;
     let printed = text_of(alloc, &program)?;
-    let inner = printed
-        .as_str()
-        .strip_prefix(BEFORE)
-        .and_then(|rest| rest.strip_suffix(BEHIND));
-    Ok(String::from_str(alloc, inner.unwrap_or(printed.as_str()))?)
+    let inner = inner(printed.as_str()).unwrap_or(printed.as_str());
+    Ok(String::from_str(alloc, inner)?)
+}
+
+// The expression in a printed text.
+fn inner(printed: &str) -> Option<&str> {
+    printed.strip_prefix(BEFORE)?.strip_suffix(BEHIND)
 }
 
 /// Whether the program of the printed text has the same printed text.
@@ -63,7 +65,7 @@ pub(crate) fn again(alloc: Global, case: &Case) -> Result<String, Fault> {
     Ok(String::from_str(alloc, "the same")?)
 }
 
-/// The number of the entry of a copy, and its printed text, and whether the program still has this text.
+/// The printed text of a copy. Where the program still has another, or another entry, both texts.
 pub(crate) fn copied(alloc: Global, case: &Case) -> Result<String, Fault> {
     let program = program(alloc, case)?;
     let copy = program.copy(alloc)?;
