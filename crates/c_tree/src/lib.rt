@@ -7,8 +7,6 @@ mod name;
 mod no_memory;
 mod program;
 mod symbol;
-#[cfg(test)]
-mod tests;
 mod token;
 mod tree;
 mod unit;

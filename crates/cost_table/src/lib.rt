@@ -16,6 +16,3 @@ mod table;
 pub use fault::CostFault;
 pub use law::{costs_are_given, first_in_byte_order, worked_tables};
 pub use table::{costs, plain_costs};
-
-#[cfg(test)]
-mod tests;
