@@ -1,5 +1,5 @@
 -- What is left of a run: what the task at work and the statements that wait for it come to.
-use Rattle.std.specs.Prelude.{◌≡◌, ℕ, zero, suc, ◌+◌, ◌%◌, ◌^◌, Bool, true, false, if◌then◌else◌, List, [], ◌∷◌, ◌++◌, take, drop, length, slice_get, Option, Some, None, ℤ}
+use Rattle.std.specs.Prelude.{◌≡◌, ℕ, zero, suc, ◌+◌, ◌%◌, ◌^◌, Bool, true, false, if◌then◌else◌, List, [], ◌∷◌, ◌++◌, take, slice_get, Option, Some, None}
 use Rattle.std.specs.Option.{option_copied}
 use Rattle.c_tree.specs.declared.tree.Stmt.{Stmt}
 use Rattle.c_tree.specs.declared.program.Func.{Func}
@@ -19,7 +19,7 @@ use Rattle.c_tree.specs.Expressions.{val, all_values}
 use Rattle.c_tree.specs.Blocks.{list_blocks}
 use Rattle.c_tree.specs.Statements as statements
 use Rattle.c_tree.specs.Statements.{Callee, Outcome, Ends, Undefined, OverBound, with_value, after, then_do, turn_do, block, while_turns, do_turns, come_back, unset_target, call, simple, stored, exec, list_exec, held}
-use Rattle.c_tree.specs.Runs.{param_types, arguments, entry_slots, global_slots, fresh, result_of, back, callee, callees}
+use Rattle.c_tree.specs.Runs.{entry_slots, fresh, result_of, back, callee, callees}
 use Rattle.c_tree.specs.Claims.{cost}
 use Rattle.c_run.specs.declared.run_end.RunEnd.{RunEnd}
 use Rattle.c_run.specs.declared.run_end.RunEnd.TheVariants as end
@@ -220,9 +220,3 @@ entered g h vs gs =
     let p = g.program.now in
     let s : Store = record { locals = entry_slots h.locals vs; globals = gs } in
     costed g.costs.now (list_exec (over p.funcs p.entry) p.entry h.body 0 false s)
-
--- and on these input numbers
-abbrev pub begun : Given → Func → List ℤ → RunEnd
-begun g h zs =
-    let ts = param_types h.params h.locals in
-    entered g h (arguments ts zs) (global_slots g.program.now.globals (drop (length ts) zs))

@@ -4,7 +4,8 @@
 use crate::examples::{CLAMP_FILTER, CLAMP_FILTER_TABLE, TWO_THRESHOLDS};
 use crate::reading::main_of;
 use crate::texts::{three, two};
-use c_run::{RunEnd, fits, input_text, read_input, run};
+use c_input::{fits, input_text, read_input};
+use c_run::{RunEnd, run};
 use c_tree::{Input, Program};
 use cost_table::{costs, plain_costs};
 use sqlite_items::Items;
