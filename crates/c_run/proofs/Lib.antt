@@ -1,5 +1,3 @@
-pub mod Declared
-pub mod OneStatement
 pub mod Remains
 pub mod WorkLayers
 pub mod Steps

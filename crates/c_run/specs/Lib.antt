@@ -1,4 +1,3 @@
-pub mod Changed
 pub mod Machine
 pub mod Work
 pub mod Ends

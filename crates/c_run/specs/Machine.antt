@@ -23,8 +23,8 @@ use Rattle.c_tree.specs.Runs.{entry_slots, fresh, result_of, back, callee, calle
 use Rattle.c_tree.specs.Claims.{cost}
 use Rattle.c_run.specs.declared.run_end.RunEnd.{RunEnd}
 use Rattle.c_run.specs.declared.run_end.RunEnd.TheVariants as end
-use Rattle.c_run.specs.declared.machine.Loop.{Loop}
-use Rattle.c_run.specs.declared.machine.DoLoop.{DoLoop}
+use Rattle.c_steps.specs.declared.loops.Loop.{Loop}
+use Rattle.c_steps.specs.declared.loops.DoLoop.{DoLoop}
 use Rattle.c_run.specs.declared.machine.Task.{Task}
 use Rattle.c_run.specs.declared.machine.Task.TheVariants as task
 use Rattle.c_run.specs.declared.machine.Pending.{Pending}
@@ -100,37 +100,12 @@ behind fs (pending.DoTest f l) o = turn_do o (do_test (over fs f) f l)
 behind fs (pending.Caller f target locals result) o =
     come_back target (record { locals = locals.items; globals = [] }) (back result o)
 
--- whether the body of a loop that ended so is followed by another turn, and how the loop ends where it is not
-abbrev pub goes_on : Way → Bool
-goes_on way.Next = true
-goes_on way.Continue = true
-goes_on way.Break = false
-goes_on (way.Return v) = false
-
-abbrev pub past : Way → Way
-past way.Break = way.Next
-past way.Next = way.Next
-past way.Continue = way.Continue
-past (way.Return v) = way.Return v
-
 -- a task that waits for what ended so
 abbrev pub onward : Way → Task → Task
 onward way.Next t = t
 onward way.Break t = task.Ended way.Break
 onward way.Continue t = task.Ended way.Continue
 onward (way.Return v) t = task.Ended (way.Return v)
-
--- what a function of this result comes back with
-abbrev pub returned : Option Ty → Way → Option Value
-returned r (way.Return v) = result_of r v
-returned r way.Next = None
-returned r way.Break = None
-returned r way.Continue = None
-
--- the slot of a local as a call begins
-abbrev pub entry_slot : Local → Option Value → Slot
-entry_slot l None = fresh l.ty l.length
-entry_slot l (Some v) = Number (convert l.ty v)
 
 -- the last waits for what is done, and each other for the one behind it
 unfoldable pub finished : List Func → List Pending → Outcome → Outcome

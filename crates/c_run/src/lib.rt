@@ -2,14 +2,10 @@
 #![tactic(auto)]
 
 mod calls;
-mod counts;
-mod expressions;
 mod loops;
 mod machine;
-mod memory;
 mod run_end;
 mod runs;
-mod simple;
 mod statements;
 
 pub use run_end::RunEnd;

@@ -6,11 +6,10 @@ ghost use Rattle.c_tree.specs.Runs as spec;
 ghost use Rattle.c_run.specs.Ends.{ended};
 ghost use Rattle.c_run.specs.Machine.{entered};
 
-use crate::calls::entry_slots;
 use crate::machine::{Given, Machine, Task};
-use crate::memory::Memory;
 use crate::run_end::RunEnd;
 use c_input::{Start, start_of};
+use c_steps::{Memory, entry_slots};
 use c_tree::{Costs, Func, Input, NoMemory, Program};
 use run_laws::costs_of_runs_fit;
 use std::alloc::Global;

@@ -10,14 +10,15 @@ use c_tree::{NoMemory, Stmt};
 use sqlite_items::Boxed;
 use std::slice;
 
-pub(crate) fn plus(a: usize, b: usize) -> Result<usize, NoMemory>
+/// The sum, or `NoMemory` where it passes `usize`.
+pub fn plus(a: usize, b: usize) -> Result<usize, NoMemory>
     ensures { IfOk result (λ n. n ≡ a + b) }
 {
     a.checked_add(b).ok_or(NoMemory)
 }
 
 /// How many blocks a list has.
-pub(crate) fn list_blocks(list: &[Stmt]) -> Result<usize, NoMemory>
+pub fn list_blocks(list: &[Stmt]) -> Result<usize, NoMemory>
     ensures { IfOk result (λ n. n ≡ spec.list_blocks list.now false) }
 {
     c_semantics::list_blocks(list).ok_or(NoMemory)
@@ -25,7 +26,7 @@ pub(crate) fn list_blocks(list: &[Stmt]) -> Result<usize, NoMemory>
 
 /// The same of one statement, of which `run` tells whether a simple one stands before it in its list.
 #[tactic(auto, using(crate::proofs::OneStatement::going_on, crate::proofs::OneStatement::on_its_own))]
-pub(crate) fn stmt_blocks(stmt: &Stmt, run: bool) -> Result<usize, NoMemory>
+pub fn stmt_blocks(stmt: &Stmt, run: bool) -> Result<usize, NoMemory>
     ensures { IfOk result (λ n. n ≡ spec.blocks stmt.now run) }
 {
     if run && is_simple(stmt) {
@@ -35,7 +36,7 @@ pub(crate) fn stmt_blocks(stmt: &Stmt, run: bool) -> Result<usize, NoMemory>
 }
 
 /// The same of an initialiser or a step of a `for`.
-pub(crate) fn held_blocks(stmt: &Option<Boxed<Stmt>>) -> Result<usize, NoMemory>
+pub fn held_blocks(stmt: &Option<Boxed<Stmt>>) -> Result<usize, NoMemory>
     ensures { IfOk result (λ n. n ≡ spec.list_blocks (held stmt.now) false) }
 {
     match stmt {

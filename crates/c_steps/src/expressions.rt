@@ -1,6 +1,7 @@
 //! The type and the value of an expression in a store (C11 6.5).
 
-ghost use Rattle.std.specs.Prelude.{◌≡◌, option_copied};
+ghost use Rattle.std.specs.Prelude.{◌≡◌, option_copied, option_map};
+ghost use Rattle.c_tree.specs.Values as values;
 ghost use Rattle.c_tree.specs.Stores as stores;
 ghost use Rattle.c_tree.specs.Expressions as spec;
 
@@ -69,7 +70,7 @@ fn type_of(e: &Expr, s: &Memory) -> Ty
 /// The value of an expression, or None where it is undefined. No value changes a store, so the right operand of `&&` and `||` is
 /// evaluated also where it does not count.
 #[tactic(auto, using(c_tree::proofs::ValLayers::val_layers))]
-pub(crate) fn value(e: &Expr, s: &Memory) -> Option<Value>
+pub fn value(e: &Expr, s: &Memory) -> Option<Value>
     ensures { result ≡ spec.val e.now s.now }
 {
     match e {
@@ -91,4 +92,11 @@ pub(crate) fn value(e: &Expr, s: &Memory) -> Option<Value>
             }
         }
     }
+}
+
+/// Whether a condition holds, or None where it is undefined.
+pub fn condition(e: &Expr, s: &Memory) -> Option<bool>
+    ensures { result ≡ option_map values.is_true (spec.val e.now s.now) }
+{
+    Some(is_true(value(e, s)?))
 }

@@ -3,7 +3,7 @@
 ghost use Rattle.std.specs.Prelude.{◌≡◌, option_copied, slice_get, slice_set};
 ghost use Rattle.c_tree.specs.declared.value.Store.{Store};
 ghost use Rattle.c_tree.specs.Stores as spec;
-ghost use Rattle.c_run.specs.Changed.{changed, changed_list, with_element};
+ghost use Rattle.c_steps.specs.Changed.{changed, changed_list, with_element};
 
 use c_semantics::{convert, ty_of};
 use c_tree::{Slot, Ty, Value, Var};
@@ -13,7 +13,7 @@ use std::mem;
 
 /// A store that is changed in place.
 #[derive(Drop)]
-pub(crate) struct Memory {
+pub struct Memory {
     locals: Vec<Slot>,
     globals: Vec<Slot>,
 }
@@ -38,14 +38,14 @@ pub(crate) fn slot_ty(slot: Option<&Slot>) -> Ty
 
 impl Memory {
     /// A store of these locals and globals.
-    pub(crate) fn new(locals: Vec<Slot>, globals: Vec<Slot>) -> Memory
+    pub fn new(locals: Vec<Slot>, globals: Vec<Slot>) -> Memory
         ensures { result ≡ record { locals = locals.items; globals = globals.items } }
     {
         Memory { locals, globals }
     }
 
     /// What the store has for a variable.
-    pub(crate) fn slot(&self, var: Var) -> Option<&Slot>
+    pub fn slot(&self, var: Var) -> Option<&Slot>
         ensures { option_copied result ≡ spec.slot self.now var }
     {
         match var {
@@ -55,7 +55,7 @@ impl Memory {
     }
 
     /// Puts other locals in place of those that it has, which it answers.
-    pub(crate) fn replace_locals(&mut self, locals: Vec<Slot>) -> Vec<Slot>
+    pub fn replace_locals(&mut self, locals: Vec<Slot>) -> Vec<Slot>
         ensures old { result.items ≡ self.old.locals }
         ensures new { self.new ≡ spec.with_locals self.old locals.items }
     {
@@ -73,7 +73,7 @@ impl Memory {
     }
 
     /// Makes a local unset, as its declaration does.
-    pub(crate) fn unset(&mut self, local: u32)
+    pub fn unset(&mut self, local: u32)
         ensures { self.new ≡ spec.unset_local local self.old }
     {
         let ty = slot_ty(self.slot(Var::Local(local)));
@@ -81,7 +81,7 @@ impl Memory {
     }
 
     /// Assigns to a scalar, converting to its type.
-    pub(crate) fn put_number(&mut self, var: Var, v: Value)
+    pub fn put_number(&mut self, var: Var, v: Value)
         ensures { self.new ≡ spec.put_number self.old var v }
     {
         let ty = slot_ty(self.slot(var));
@@ -89,14 +89,14 @@ impl Memory {
     }
 
     /// Gives a local array its numbers.
-    pub(crate) fn put_array(&mut self, local: u32, ty: Ty, numbers: Items<Value>)
+    pub fn put_array(&mut self, local: u32, ty: Ty, numbers: Items<Value>)
         ensures { self.new ≡ spec.with_slot self.old (Var.Local local) (Slot.Numbers ty numbers) }
     {
         self.put(Var::Local(local), Slot::Numbers(ty, numbers));
     }
 
     /// Assigns to an element, converting to its type; tells whether that is defined.
-    pub(crate) fn put_at(&mut self, var: Var, at: u32, v: Value) -> bool
+    pub fn put_at(&mut self, var: Var, at: u32, v: Value) -> bool
         ensures { changed result self.new ≡ spec.put_at self.old var (spec.slot self.old var) at v }
     {
         match var {

@@ -1,7 +1,7 @@
 use Rattle.std.proofs.Common.{Some, sym, ap, ◌∙◌}
 use Rattle.c_tree.specs.Stores.{slot_ty, array_length}
-use Rattle.c_run.proofs.Declared.{array_declared}
-use Rattle.c_run.proofs.simple.declare_array.Goals as goal
+use Rattle.c_steps.proofs.Declared.{array_declared}
+use Rattle.c_steps.proofs.simple_statements.declare_array.Goals as goal
 
 pub returns-in_ok-list-in-Some : goal.returns-in_ok-list-in-Some
 returns-in_ok-list-in-Some c =

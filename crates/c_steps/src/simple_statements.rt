@@ -5,7 +5,7 @@ ghost use Rattle.c_tree.specs.Values as values;
 ghost use Rattle.c_tree.specs.Stores as stores;
 ghost use Rattle.c_tree.specs.Expressions as expressions;
 ghost use Rattle.c_tree.specs.Statements as spec;
-ghost use Rattle.c_run.specs.Changed.{changed};
+ghost use Rattle.c_steps.specs.Changed.{changed};
 
 use crate::expressions::{index, number_at, number_in, value};
 use crate::memory::{Memory, slot_ty};
@@ -68,7 +68,7 @@ fn assign(place: &Place, op: &Option<BinOp>, e: &Expr, memory: &mut Memory) -> b
 }
 
 /// The values of a list of expressions, or None where one is undefined.
-pub(crate) fn all_values(
+pub fn all_values(
     alloc: Global,
     exprs: &[Expr],
     memory: &Memory,
@@ -162,7 +162,7 @@ fn declare_array(
 }
 
 /// Does a simple statement, and tells whether it is defined.
-pub(crate) fn simple(alloc: Global, stmt: &Stmt, memory: &mut Memory) -> Result<bool, NoMemory>
+pub fn simple(alloc: Global, stmt: &Stmt, memory: &mut Memory) -> Result<bool, NoMemory>
     ensures { IfOk result (λ d. changed d memory.new ≡ spec.simple stmt.now memory.old) }
 {
     match stmt {
