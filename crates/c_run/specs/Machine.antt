@@ -1,5 +1,5 @@
 -- What is left of a run: what the task at work and the statements that wait for it come to.
-use Rattle.std.specs.Prelude.{◌≡◌, ℕ, zero, suc, ◌+◌, ◌%◌, ◌^◌, Bool, true, false, if◌then◌else◌, List, [], ◌∷◌, ◌++◌, take, slice_get, Option, Some, None}
+use Rattle.std.specs.Prelude.{◌≡◌, ℕ, zero, suc, ◌+◌, ◌%◌, ◌^◌, Bool, true, false, if◌then◌else◌, List, [], ◌∷◌, ◌++◌, take, slice_get}
 use Rattle.std.specs.Option.{option_copied}
 use Rattle.c_tree.specs.declared.tree.Stmt.{Stmt}
 use Rattle.c_tree.specs.declared.program.Func.{Func}
@@ -9,17 +9,14 @@ use Rattle.c_tree.specs.declared.value.Way.{Way}
 use Rattle.c_tree.specs.declared.value.Way.TheVariants as way
 use Rattle.c_tree.specs.declared.value.Value.{Value}
 use Rattle.c_tree.specs.declared.value.Slot.{Slot}
-use Rattle.c_tree.specs.declared.value.Slot.TheVariants.{Number}
-use Rattle.c_tree.specs.declared.tree.Ty.{Ty}
 use Rattle.c_tree.specs.declared.tree.Expr.{Expr}
 use Rattle.c_tree.specs.declared.tree.Target.{Target}
-use Rattle.c_tree.specs.declared.program.Local.{Local}
-use Rattle.c_tree.specs.Values.{convert, is_true}
+use Rattle.c_tree.specs.Values.{is_true}
 use Rattle.c_tree.specs.Expressions.{val, all_values}
 use Rattle.c_tree.specs.Blocks.{list_blocks}
 use Rattle.c_tree.specs.Statements as statements
 use Rattle.c_tree.specs.Statements.{Callee, Outcome, Ends, Undefined, OverBound, with_value, after, then_do, turn_do, block, while_turns, do_turns, come_back, unset_target, call, simple, stored, exec, list_exec, held}
-use Rattle.c_tree.specs.Runs.{entry_slots, fresh, result_of, back, callee, callees}
+use Rattle.c_tree.specs.Runs.{entry_slots, back, callee, callees}
 use Rattle.c_tree.specs.Claims.{cost}
 use Rattle.c_run.specs.declared.run_end.RunEnd.{RunEnd}
 use Rattle.c_run.specs.declared.run_end.RunEnd.TheVariants as end

@@ -1,5 +1,5 @@
 -- The blocks of one statement: a simple one that goes on with a run begins none, and what stands before any other one does not matter.
-use Rattle.std.proofs.Common.{◌≡◌, ℕ, Bool, true, false, refl}
+use Rattle.std.proofs.Common.{◌≡◌, Bool, true, false, refl}
 use Rattle.c_tree.specs.declared.tree.Stmt.{Stmt}
 use Rattle.c_tree.specs.declared.tree.Stmt.TheVariants.{Empty, Scalar, Array, Assign, Call, Break, Continue, Return, If', While', Do', For', Group'}
 use Rattle.c_tree.specs.Blocks.{is_simple, blocks}

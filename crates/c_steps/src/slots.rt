@@ -43,11 +43,7 @@ fn entry_slot(alloc: Global, local: &Local, value: Option<&Value>) -> Result<Slo
 }
 
 /// The slots of a function's locals as a call begins.
-pub fn entry_slots(
-    alloc: Global,
-    locals: &[Local],
-    values: &[Value],
-) -> Result<Vec<Slot>, NoMemory>
+pub fn entry_slots(alloc: Global, locals: &[Local], values: &[Value]) -> Result<Vec<Slot>, NoMemory>
     ensures { IfOk result (λ v. v.items ≡ runs.entry_slots locals.now values.now) }
 {
     let mut slots = Vec::new(alloc);
