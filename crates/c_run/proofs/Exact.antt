@@ -1,7 +1,6 @@
--- The run of a well-formed program has the cost of its trace exactly, since that is less than 2^128.
-use Rattle.std.proofs.Common.{◌≡◌, ◌<◌, ◌≤◌, ℕ, zero, suc, ◌+◌, ◌*◌, ◌%◌, ◌^◌, false, List, [], ◌∷◌, ◌++◌, drop, length, Option, Some, None, option_map, refl, subst, sym, ap, ◌∙◌, arith, append_assoc, append-nil, zero-add}
+-- The run of a program has the cost of its trace exactly where that is less than 2^128.
+use Rattle.std.proofs.Common.{◌≡◌, ◌<◌, ℕ, ◌+◌, ◌%◌, ◌^◌, false, List, [], drop, length, Option, Some, None, option_map, refl, sym, ap, ◌∙◌, arith, zero-add}
 use Rattle.std.specs.Prelude.{slice_get}
-use Rattle.std.proofs.lemmas.List.Sums.{sum_by-append}
 use Rattle.std.proofs.Math.Nat.{add-mod-mod, mod-eq_of_lt}
 use Rattle.c_tree.specs.declared.tree.Ty.{Ty}
 use Rattle.c_tree.specs.declared.program.BlockName.{BlockName}
@@ -16,55 +15,13 @@ use Rattle.c_tree.specs.declared.value.Store.{Store}
 use Rattle.c_tree.specs.declared.value.Way.TheVariants as way
 use Rattle.c_tree.specs.Statements.{Callee, Outcome, Ends, Undefined, OverBound, list_exec}
 use Rattle.c_tree.specs.Runs.{param_types, arguments, entry_types, entry_slots, global_slots, back, callee, callees, Run, Ended, IsUndefined, run_of, started, run}
-use Rattle.c_tree.specs.Claims.{block_cost, cost}
-use Rattle.c_tree.specs.Spans.{span_at, func_span, spans}
-use Rattle.c_tree.specs.Layouts.{Shape}
-use Rattle.c_tree.specs.WellFormed.{WellFormedFuncs, WellFormed}
+use Rattle.c_tree.specs.Claims.{cost}
 use Rattle.c_tree.proofs.Callees.{callee_at}
 use Rattle.c_run.specs.declared.run_end.RunEnd.TheVariants as end
 use Rattle.c_run.specs.declared.machine.Machine.{Machine}
 use Rattle.c_run.specs.declared.machine.Given.{Given}
 use Rattle.c_run.specs.Machine.{costed, dearer, over, finished, state, ends_as, entered}
 use Rattle.c_run.specs.Ends.{ended}
-use Rattle.c_run.proofs.TraceLength.{run_within}
-
--- ---- spans
-
-spans_snoc : (ss : List ℕ) (fs : List Func) (f : Func) → spans ss (fs ++ f ∷ []) ≡ spans ss fs ++ func_span (spans ss fs) f ∷ []
-spans_snoc ss [] f = refl
-spans_snoc ss (g ∷ fs) f = spans_snoc (ss ++ func_span ss g ∷ []) fs f
-
-abbrev AllShort : List ℕ → Type 0
-AllShort [] = Unit {0}
-AllShort (n ∷ ns) = (n ≤ 2 ^ 64) × AllShort ns
-
-short_more : (ns : List ℕ) (n : ℕ) → AllShort ns → n ≤ 2 ^ 64 → AllShort (ns ++ n ∷ [])
-short_more [] n h le = (le, tt)
-short_more (m ∷ ns) n h le = (h.0, short_more ns n h.1 le)
-
-short_at : (ns : List ℕ) (g : ℕ) → AllShort ns → span_at ns g ≤ 2 ^ 64
-short_at [] g h = omega arith
-short_at (n ∷ ns) zero h = h.0
-short_at (n ∷ ns) (suc g) h = short_at ns g h.1
-
-all_short : (globals : List Shape) (above fs : List Func) → WellFormedFuncs globals above fs → AllShort (spans [] above) → AllShort (spans [] (above ++ fs))
-all_short globals above [] w h = subst (λ fs. AllShort (spans [] fs)) (sym (append-nil above)) h
-all_short globals above (f ∷ fs) w h =
-    let more = short_more (spans [] above) (func_span (spans [] above) f) h w.0.span in
-    subst (λ fs. AllShort (spans [] fs)) (append_assoc above (f ∷ []) fs) (all_short globals (above ++ f ∷ []) fs w.1 (subst AllShort (sym (spans_snoc [] above f)) more))
-
--- ---- costs
-
-cost_small : (t : Costs) → ((b : BlockName) → block_cost t b < 2 ^ 32) → (u : List BlockName) → cost t u ≤ length u * 2 ^ 32
-cost_small t small [] = omega arith
-cost_small t small (b ∷ u) =
-    let parts = sum_by-append (block_cost t) (b ∷ []) u in
-    omega (arith, parts, small b, cost_small t small u)
-
-pub cost_fits : (p : Program) (t : Costs) → WellFormed p → ((b : BlockName) → block_cost t b < 2 ^ 32) → (i : Input) (u : List BlockName) → run p i ≡ Ended u → cost t u < 2 ^ 128
-cost_fits p t w small i u e =
-    let short = short_at (spans [] p.funcs) p.entry (all_short _ [] p.funcs w.funcs tt) in
-    omega (arith, short, run_within p i u e, cost_small t small u)
 
 pub ended_is : (t : Costs) (r : Option Ty) (o : Outcome) → ((u : List BlockName) → run_of (back r o) ≡ Ended u → cost t u < 2 ^ 128) → costed t o ≡ ended t (run_of (back r o))
 unfolding costed

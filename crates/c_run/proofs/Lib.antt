@@ -1,14 +1,5 @@
-pub mod Declared
-pub mod OneStatement
 pub mod Remains
 pub mod WorkLayers
 pub mod Steps
 pub mod Above
-pub mod TraceLength
-pub mod InputParts
 pub mod Exact
-pub mod CostRows
-pub mod InputLeads
-pub mod NumberTexts
-pub mod InputSteps
-pub mod InputRead

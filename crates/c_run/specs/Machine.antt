@@ -1,5 +1,5 @@
 -- What is left of a run: what the task at work and the statements that wait for it come to.
-use Rattle.std.specs.Prelude.{◌≡◌, ℕ, zero, suc, ◌+◌, ◌%◌, ◌^◌, Bool, true, false, if◌then◌else◌, List, [], ◌∷◌, ◌++◌, take, drop, length, slice_get, Option, Some, None, ℤ}
+use Rattle.std.specs.Prelude.{◌≡◌, ℕ, zero, suc, ◌+◌, ◌%◌, ◌^◌, Bool, true, false, if◌then◌else◌, List, [], ◌∷◌, ◌++◌, take, slice_get}
 use Rattle.std.specs.Option.{option_copied}
 use Rattle.c_tree.specs.declared.tree.Stmt.{Stmt}
 use Rattle.c_tree.specs.declared.program.Func.{Func}
@@ -9,22 +9,19 @@ use Rattle.c_tree.specs.declared.value.Way.{Way}
 use Rattle.c_tree.specs.declared.value.Way.TheVariants as way
 use Rattle.c_tree.specs.declared.value.Value.{Value}
 use Rattle.c_tree.specs.declared.value.Slot.{Slot}
-use Rattle.c_tree.specs.declared.value.Slot.TheVariants.{Number}
-use Rattle.c_tree.specs.declared.tree.Ty.{Ty}
 use Rattle.c_tree.specs.declared.tree.Expr.{Expr}
 use Rattle.c_tree.specs.declared.tree.Target.{Target}
-use Rattle.c_tree.specs.declared.program.Local.{Local}
-use Rattle.c_tree.specs.Values.{convert, is_true}
+use Rattle.c_tree.specs.Values.{is_true}
 use Rattle.c_tree.specs.Expressions.{val, all_values}
 use Rattle.c_tree.specs.Blocks.{list_blocks}
 use Rattle.c_tree.specs.Statements as statements
 use Rattle.c_tree.specs.Statements.{Callee, Outcome, Ends, Undefined, OverBound, with_value, after, then_do, turn_do, block, while_turns, do_turns, come_back, unset_target, call, simple, stored, exec, list_exec, held}
-use Rattle.c_tree.specs.Runs.{param_types, arguments, entry_slots, global_slots, fresh, result_of, back, callee, callees}
+use Rattle.c_tree.specs.Runs.{entry_slots, back, callee, callees}
 use Rattle.c_tree.specs.Claims.{cost}
 use Rattle.c_run.specs.declared.run_end.RunEnd.{RunEnd}
 use Rattle.c_run.specs.declared.run_end.RunEnd.TheVariants as end
-use Rattle.c_run.specs.declared.machine.Loop.{Loop}
-use Rattle.c_run.specs.declared.machine.DoLoop.{DoLoop}
+use Rattle.c_steps.specs.declared.loops.Loop.{Loop}
+use Rattle.c_steps.specs.declared.loops.DoLoop.{DoLoop}
 use Rattle.c_run.specs.declared.machine.Task.{Task}
 use Rattle.c_run.specs.declared.machine.Task.TheVariants as task
 use Rattle.c_run.specs.declared.machine.Pending.{Pending}
@@ -100,37 +97,12 @@ behind fs (pending.DoTest f l) o = turn_do o (do_test (over fs f) f l)
 behind fs (pending.Caller f target locals result) o =
     come_back target (record { locals = locals.items; globals = [] }) (back result o)
 
--- whether the body of a loop that ended so is followed by another turn, and how the loop ends where it is not
-abbrev pub goes_on : Way → Bool
-goes_on way.Next = true
-goes_on way.Continue = true
-goes_on way.Break = false
-goes_on (way.Return v) = false
-
-abbrev pub past : Way → Way
-past way.Break = way.Next
-past way.Next = way.Next
-past way.Continue = way.Continue
-past (way.Return v) = way.Return v
-
 -- a task that waits for what ended so
 abbrev pub onward : Way → Task → Task
 onward way.Next t = t
 onward way.Break t = task.Ended way.Break
 onward way.Continue t = task.Ended way.Continue
 onward (way.Return v) t = task.Ended (way.Return v)
-
--- what a function of this result comes back with
-abbrev pub returned : Option Ty → Way → Option Value
-returned r (way.Return v) = result_of r v
-returned r way.Next = None
-returned r way.Break = None
-returned r way.Continue = None
-
--- the slot of a local as a call begins
-abbrev pub entry_slot : Local → Option Value → Slot
-entry_slot l None = fresh l.ty l.length
-entry_slot l (Some v) = Number (convert l.ty v)
 
 -- the last waits for what is done, and each other for the one behind it
 unfoldable pub finished : List Func → List Pending → Outcome → Outcome
@@ -220,9 +192,3 @@ entered g h vs gs =
     let p = g.program.now in
     let s : Store = record { locals = entry_slots h.locals vs; globals = gs } in
     costed g.costs.now (list_exec (over p.funcs p.entry) p.entry h.body 0 false s)
-
--- and on these input numbers
-abbrev pub begun : Given → Func → List ℤ → RunEnd
-begun g h zs =
-    let ts = param_types h.params h.locals in
-    entered g h (arguments ts zs) (global_slots g.program.now.globals (drop (length ts) zs))

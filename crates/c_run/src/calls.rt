@@ -1,19 +1,15 @@
 //! Calls (C11 6.5.2.2, 6.9.1), and what goes on behind the end of what was waited for.
 
 ghost use Rattle.std.specs.Prelude.{◌≡◌, ◌<◌, ◌+◌, option_copied, slice_get, take, IfOk};
-ghost use Rattle.c_tree.specs.Statements.{unset_target, give};
-ghost use Rattle.c_tree.specs.Runs as runs;
+ghost use Rattle.c_tree.specs.Statements.{give};
 ghost use Rattle.c_run.specs.Machine as machine;
 ghost use Rattle.c_run.specs.declared.machine.Given.{Given};
 ghost use Rattle.c_run.specs.Machine.{remains, ends_as, ComesTo, calling, called, resumed};
 ghost use Rattle.c_run.specs.Work.{work_at, efforts, waiting, left, callee_work, work_behind};
 
-use crate::machine::{Given, Machine, Pending, Task, with_block};
-use crate::memory::Memory;
-use crate::simple::{all_values, padded};
-use c_semantics::convert;
-use c_tree::{Expr, Func, Local, NoMemory, Program, Slot, Target, Ty, Value, Var, Way};
-use std::alloc::Global;
+use crate::machine::{Given, Machine, Pending, Task};
+use c_steps::{all_values, entry_slots, returned, unset_target, with_block};
+use c_tree::{Expr, Func, NoMemory, Program, Target, Value, Var, Way};
 
 impl<'a> Machine<'a> {
     /// A call.
@@ -29,7 +25,7 @@ impl<'a> Machine<'a> {
         ensures less { IfOk result (λ t. left given.entry self.new t < 2 + work_at (efforts given.entry self.old) func + waiting given.entry self.old) }
     {
         self.cost = with_block(self.cost, given.costs, self.func, at);
-        unset(target, &mut self.memory);
+        unset_target(target, &mut self.memory);
         let Some(callee) = function_above(given.program, func, self.func) else {
             return Ok(Task::Undefined);
         };
@@ -139,17 +135,6 @@ impl<'a> Machine<'a> {
     }
 }
 
-// A call that initialises a local makes it unset before its arguments are evaluated.
-fn unset(target: Target, memory: &mut Memory)
-    ensures { memory.new ≡ unset_target target memory.old }
-{
-    match target {
-        Target::Nothing => (),
-        Target::Assign(_) => (),
-        Target::Declare(local) => memory.unset(local),
-    }
-}
-
 // A function that stands above the function `below`.
 fn function_above(program: &Program, func: u32, below: u32) -> Option<&Func>
     ensures { option_copied result ≡ slice_get (take below program.now.funcs) func }
@@ -169,52 +154,4 @@ fn onward<'a>(way: Way, task: Task<'a>) -> Task<'a>
         Way::Next => task,
         _ => Task::Ended(way),
     }
-}
-
-// What a function of this result comes back with whose list ended in this way.
-fn returned(ty: Option<Ty>, way: Way) -> Option<Value>
-    ensures { result ≡ machine.returned ty way }
-{
-    let Way::Return(value) = way else {
-        return None;
-    };
-    Some(convert(ty?, value?))
-}
-
-// A local that is no parameter, as a call begins.
-fn fresh(alloc: Global, ty: Ty, length: Option<u32>) -> Result<Slot, NoMemory>
-    ensures { IfOk result (λ x. x ≡ runs.fresh ty length) }
-{
-    match length {
-        None => Ok(Slot::Unset(ty)),
-        Some(n) => Ok(Slot::Numbers(ty, padded(alloc, ty, n as usize, &[])?)),
-    }
-}
-
-// The slot of a local as a call begins, of a parameter with its argument.
-fn entry_slot(alloc: Global, local: &Local, value: Option<&Value>) -> Result<Slot, NoMemory>
-    ensures { IfOk result (λ x. x ≡ machine.entry_slot local.now (option_copied value.entry)) }
-{
-    match value {
-        None => fresh(alloc, local.ty, local.length),
-        Some(v) => Ok(Slot::Number(convert(local.ty, *v))),
-    }
-}
-
-/// The slots of a function's locals as a call begins.
-pub(crate) fn entry_slots(
-    alloc: Global,
-    locals: &[Local],
-    values: &[Value],
-) -> Result<Vec<Slot>, NoMemory>
-    ensures { IfOk result (λ v. v.items ≡ runs.entry_slots locals.now values.now) }
-{
-    let mut slots = Vec::new(alloc);
-    for (i, local) in locals.iter().enumerate() {
-        let slot = entry_slot(alloc, local, values.get(i))?;
-        if slots.push(slot).is_err() {
-            return Err(NoMemory);
-        }
-    }
-    Ok(slots)
 }

@@ -1,16 +1,14 @@
 //! Loops (C11 6.8.5).
 
-ghost use Rattle.std.specs.Prelude.{◌≡◌, ◌<◌, ◌+◌, false, None, option_copied, IfOk};
-ghost use Rattle.c_tree.specs.Blocks.{list_blocks};
+ghost use Rattle.std.specs.Prelude.{◌≡◌, ◌<◌, ◌+◌, IfOk};
 ghost use Rattle.c_tree.specs.Statements.{held};
 ghost use Rattle.c_run.specs.declared.machine.Given.{Given};
-ghost use Rattle.c_run.specs.Machine as loops;
 ghost use Rattle.c_run.specs.Machine.{turns, remains, ComesTo, entering_loop, begun_for, resumed};
 ghost use Rattle.c_run.specs.Work.{waiting, left, begun_work, work_behind};
 
-use crate::counts::{held_blocks, list_blocks, plus};
-use crate::machine::{DoLoop, Given, Loop, Machine, Pending, Task, condition, with_block};
-use c_tree::{Expr, NoMemory, Stmt, Way};
+use crate::machine::{Given, Machine, Pending, Task};
+use c_steps::{DoLoop, Loop, condition, goes_on, past, plus, with_block};
+use c_tree::{NoMemory, Stmt, Way};
 use sqlite_items::Boxed;
 
 impl<'a> Machine<'a> {
@@ -131,100 +129,5 @@ impl<'a> Machine<'a> {
             Some(false) => Task::Ended(Way::Next),
             Some(true) => Task::Again(turns),
         }
-    }
-}
-
-// Whether a body that ended in this way is followed by another turn.
-fn goes_on(way: Way) -> bool
-    ensures { result ≡ loops.goes_on way }
-{
-    match way {
-        Way::Next => true,
-        Way::Continue => true,
-        Way::Break => false,
-        Way::Return(_) => false,
-    }
-}
-
-// The way in which a loop ends whose body ended in this way.
-fn past(way: Way) -> Way
-    ensures { result ≡ loops.past way }
-{
-    match way {
-        Way::Break => Way::Next,
-        _ => way,
-    }
-}
-
-/// A `while` whose condition is the block `at`.
-pub(crate) fn while_loop<'a>(
-    bound: u32,
-    condition: &'a Expr,
-    body: &'a [Stmt],
-    at: usize,
-) -> Result<Loop<'a>, NoMemory>
-    ensures { IfOk result (λ l. l ≡ record { condition = condition.entry; step = None; body = body.entry; at = at; body_at = at + 1; left = bound }) }
-{
-    Ok(Loop {
-        condition,
-        step: None,
-        body,
-        at,
-        body_at: plus(at, 1)?,
-        left: bound,
-    })
-}
-
-/// A `do` whose body begins at the block `at`.
-pub(crate) fn do_loop<'a>(
-    bound: u32,
-    body: &'a [Stmt],
-    condition: &'a Expr,
-    at: usize,
-) -> Result<DoLoop<'a>, NoMemory>
-    ensures { IfOk result (λ l. l ≡ record { condition = condition.entry; body = body.entry; at = at + list_blocks body.now false; body_at = at; left = bound }) }
-{
-    Ok(DoLoop {
-        condition,
-        body,
-        at: plus(at, list_blocks(body)?)?,
-        body_at: at,
-        left: bound,
-    })
-}
-
-/// A `for` whose condition is the block `at`.
-pub(crate) fn for_loop<'a>(
-    bound: u32,
-    condition: &'a Expr,
-    step: &'a Option<Boxed<Stmt>>,
-    body: &'a [Stmt],
-    at: usize,
-) -> Result<Loop<'a>, NoMemory>
-    ensures condition { IfOk result (λ l. l.condition ≡ condition.entry) }
-    ensures step { IfOk result (λ l. option_copied l.step ≡ step.now) }
-    ensures body { IfOk result (λ l. l.body ≡ body.entry) }
-    ensures at { IfOk result (λ l. l.at ≡ at) }
-    ensures body_at { IfOk result (λ l. l.body_at ≡ at + 1 + list_blocks (held step.now) false) }
-    ensures left { IfOk result (λ l. l.left ≡ bound) }
-{
-    let body_at = plus(plus(at, 1)?, held_blocks(step)?)?;
-    Ok(Loop {
-        condition,
-        step: inner(step),
-        body,
-        at,
-        body_at,
-        left: bound,
-    })
-}
-
-// The statement that stands there, if there is one.
-fn inner(stmt: &Option<Boxed<Stmt>>) -> Option<&Stmt>
-    ensures { option_copied result ≡ stmt.now }
-{
-    match stmt {
-        None => None,
-        Some(stmt) => Some(stmt.get()),
     }
 }

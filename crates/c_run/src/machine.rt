@@ -1,19 +1,13 @@
 //! Runs of statements (C11 6.8). What is left to do of the statements around the one at work stands in a list on the
 //! heap, so nested calls and statements take no more stack.
 
-ghost use Rattle.std.specs.Prelude.{◌≡◌, ◌<◌, ◌+◌, ◌%◌, ◌^◌, true, [], option_map, IfOk, OnOk};
-ghost use Rattle.c_tree.specs.Values.{is_true};
-ghost use Rattle.c_tree.specs.Expressions.{val};
-ghost use Rattle.c_tree.specs.Statements.{block};
-ghost use Rattle.c_tree.specs.Claims.{block_cost};
+ghost use Rattle.std.specs.Prelude.{◌≡◌, ◌<◌, true, [], IfOk, OnOk};
 ghost use Rattle.c_run.specs.Machine.{Waits, is_work, remains};
 ghost use Rattle.c_run.specs.Work.{left};
 
-use crate::expressions::value;
-use crate::memory::Memory;
 use crate::run_end::RunEnd;
-use c_semantics::is_true;
-use c_tree::{Costs, Expr, NoMemory, Program, Slot, Stmt, Target, Ty, Way};
+use c_steps::{DoLoop, Loop, Memory};
+use c_tree::{Costs, NoMemory, Program, Slot, Stmt, Target, Ty, Way};
 use std::alloc::Global;
 
 /// What a run is made of, and where it takes memory from.
@@ -22,29 +16,6 @@ pub(crate) struct Given<'a> {
     pub(crate) alloc: Global,
     pub(crate) program: &'a Program,
     pub(crate) costs: &'a Costs,
-}
-
-/// A `while` or a `for`, whose body may be entered `left` more times. `at` is the block of its condition, behind which
-/// comes that of its step; `body_at` is the first of its body.
-#[derive(Clone, Copy)]
-pub(crate) struct Loop<'a> {
-    pub(crate) condition: &'a Expr,
-    pub(crate) step: Option<&'a Stmt>,
-    pub(crate) body: &'a [Stmt],
-    pub(crate) at: usize,
-    pub(crate) body_at: usize,
-    pub(crate) left: u32,
-}
-
-/// A `do`, whose body may be entered `left` more times. `body_at` is the first block of its body, and `at` that of its
-/// condition.
-#[derive(Clone, Copy)]
-pub(crate) struct DoLoop<'a> {
-    pub(crate) condition: &'a Expr,
-    pub(crate) body: &'a [Stmt],
-    pub(crate) at: usize,
-    pub(crate) body_at: usize,
-    pub(crate) left: u32,
 }
 
 /// What is to be done next in the function at work.
@@ -115,24 +86,6 @@ pub(crate) struct Machine<'a> {
     pub(crate) memory: Memory,
     pub(crate) pending: Vec<Pending<'a>>,
     pub(crate) cost: u128,
-}
-
-/// The cost with that of a block added.
-pub(crate) fn with_block(cost: u128, costs: &Costs, func: u32, at: usize) -> u128
-    ensures { result ≡ (cost + block_cost costs.now (block func at)) % 2 ^ 128 }
-{
-    let more = match costs.by_func.get(func as usize) {
-        None => 0,
-        Some(row) => row.get(at).copied().unwrap_or(0),
-    };
-    cost.wrapping_add(u128::from(more))
-}
-
-/// Whether a condition holds, or None where it is undefined.
-pub(crate) fn condition(e: &Expr, memory: &Memory) -> Option<bool>
-    ensures { result ≡ option_map is_true (val e.now memory.now) }
-{
-    Some(is_true(value(e, memory)?))
 }
 
 impl<'a> Machine<'a> {

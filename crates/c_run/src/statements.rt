@@ -1,19 +1,18 @@
 //! Statements that are no loops and no calls (C11 6.8.2, 6.8.4, 6.8.6), and what a statement of each kind begins with.
 
-ghost use Rattle.std.specs.Prelude.{◌≡◌, ◌<◌, ◌+◌, ◌%◌, ◌^◌, true, false, [], ◌∷◌, IfOk};
+ghost use Rattle.std.specs.Prelude.{◌≡◌, ◌<◌, ◌+◌, [], ◌∷◌, IfOk};
 ghost use Rattle.c_tree.specs.Statements.{Ends, after, return_value, block};
-ghost use Rattle.c_tree.specs.Claims.{block_cost};
 ghost use Rattle.c_run.specs.declared.machine.Given.{Given};
 ghost use Rattle.c_run.specs.Machine.{remains, ComesTo, simple_from, chosen_list};
 ghost use Rattle.c_run.specs.Work.{waiting, left, choice_work};
 
-use crate::counts::{held_blocks, list_blocks, plus, stmt_blocks};
-use crate::expressions::value;
-use crate::loops::{do_loop, for_loop, while_loop};
-use crate::machine::{Given, Machine, Pending, Task, condition, with_block};
-use crate::simple::simple;
+use crate::machine::{Given, Machine, Pending, Task};
 use c_semantics::is_simple;
-use c_tree::{Costs, Expr, NoMemory, Stmt, Way};
+use c_steps::{
+    condition, do_loop, for_loop, held_blocks, list_blocks, plus, simple, stmt_blocks, value,
+    while_loop, with_block, with_run,
+};
+use c_tree::{Expr, NoMemory, Stmt, Way};
 
 impl<'a> Machine<'a> {
     /// A list of statements.
@@ -151,17 +150,5 @@ impl<'a> Machine<'a> {
                 run: false,
             }),
         }
-    }
-}
-
-// The cost with that of the block that a simple statement begins, unless a run of them goes on.
-fn with_run(cost: u128, costs: &Costs, func: u32, at: usize, run: bool) -> u128
-    ensures on { run ≡ true → result ≡ cost }
-    ensures begun { run ≡ false → result ≡ (cost + block_cost costs.now (block func at)) % 2 ^ 128 }
-{
-    if run {
-        cost
-    } else {
-        with_block(cost, costs, func, at)
     }
 }

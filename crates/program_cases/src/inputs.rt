@@ -4,7 +4,7 @@ use crate::case::Case;
 use crate::fault::Fault;
 use crate::lists::{listed, numbers};
 use crate::reading::program;
-use c_run::{fits, input_text, read_input};
+use c_input::{fits, input_text, read_input};
 use c_tree::{Input, Program};
 use sqlite_items::Items;
 use std::alloc::Global;

@@ -3,7 +3,8 @@
 use crate::case::{Case, number};
 use crate::fault::Fault;
 use crate::reading::{costs_of, program, program_of};
-use c_run::{RunEnd, read_input, run};
+use c_input::read_input;
+use c_run::{RunEnd, run};
 use c_tree::Program;
 use std::alloc::{AllocError, Global};
 

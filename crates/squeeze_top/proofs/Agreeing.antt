@@ -9,7 +9,7 @@ use Rattle.c_tree.specs.declared.program.Costs.{Costs}
 use Rattle.c_tree.specs.declared.program.Input.{Input as Inputs}
 use Rattle.c_tree.specs.Runs.{fits, run}
 use Rattle.c_run.specs.Ends.{ended}
-use Rattle.c_run.specs.InputTexts.{input_text}
+use Rattle.c_input.specs.InputTexts.{input_text}
 use Rattle.c_tree.specs.Naming.{program_of}
 use Rattle.c_tree.specs.Refusals as checking
 use Rattle.c_tree.specs.Refusals.{Typed, faults}

@@ -16,7 +16,7 @@ use Rattle.ipet_rows.specs.CapsBound.{caps_bound}
 use Rattle.c_run.specs.declared.run_end.RunEnd.{RunEnd}
 use Rattle.c_run.specs.declared.run_end.RunEnd.TheVariants.{Ends, Undefined, OverBound}
 use Rattle.c_run.specs.Ends.{ended}
-use Rattle.c_run.specs.InputTexts.{input_text}
+use Rattle.c_input.specs.InputTexts.{input_text}
 use Rattle.print_laws.specs.Again.{IsReadAs}
 use Rattle.print_laws.specs.Printed.{printed}
 use Rattle.squeeze_top.specs.declared.words.Mode.{Mode}

@@ -4,7 +4,7 @@ use Rattle.wc_outside.specs.Contents.{Files, OnFile}
 use Rattle.c_tree.specs.declared.program.Program.{Program}
 use Rattle.c_tree.specs.declared.program.Input.{Input as Inputs}
 use Rattle.c_tree.specs.Runs.{fits}
-use Rattle.c_run.specs.InputTexts.{input_text}
+use Rattle.c_input.specs.InputTexts.{input_text}
 use Rattle.cost_table.specs.declared.fault.CostFault.{CostFault}
 use Rattle.cost_table.specs.declared.fault.CostFault.TheVariants as cost
 use Rattle.cost_table.specs.Tables.{verdict}

@@ -9,7 +9,7 @@ use Rattle.c_tree.specs.declared.program.Costs.{Costs}
 use Rattle.c_tree.specs.declared.program.Input.{Input as Inputs}
 use Rattle.c_tree.specs.Claims.{AreCostsOf}
 use Rattle.c_tree.specs.Runs.{fits}
-use Rattle.c_run.specs.InputTexts.{input_text}
+use Rattle.c_input.specs.InputTexts.{input_text}
 use Rattle.cost_table.specs.declared.fault.CostFault.{CostFault}
 use Rattle.cost_table.specs.Tables.{IsTable, verdict, plain, block_name}
 use Rattle.flow_laws.specs.Graphs.{graph}

@@ -4,7 +4,7 @@ use Rattle.c_tree.specs.declared.program.Program.{Program}
 use Rattle.c_tree.specs.declared.program.Costs.{Costs}
 use Rattle.c_tree.specs.Runs as runs
 use Rattle.c_run.specs.Ends.{ended}
-use Rattle.c_run.specs.InputTexts.{input_text}
+use Rattle.c_input.specs.InputTexts.{input_text}
 use Rattle.squeeze_top.specs.declared.answer.Task.{Task}
 use Rattle.squeeze_top.specs.declared.answer.Task.TheVariants.{Bound, Blocks, Run, Print}
 use Rattle.squeeze_top.specs.declared.words.Mode.{Mode}

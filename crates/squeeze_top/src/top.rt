@@ -17,7 +17,7 @@ use crate::reading::one_unit;
 use crate::refusal::{Halt, Refusal};
 use crate::words::{job_of, requests_are_asked};
 use crate::work::answer_to_job;
-use c_run::one_input;
+use c_input::one_input;
 use std::alloc::Global;
 use std::sync::Wait;
 use std::thread::Threads;

@@ -13,7 +13,7 @@ use crate::pricing::costs_of;
 use crate::reading::program_of;
 use crate::refusal::{Halt, Refusal};
 use crate::words::{Job, Mode};
-use c_run::read_input;
+use c_input::read_input;
 use c_tree::{Costs, Program};
 use cost_table::plain_costs;
 use std::alloc::Global;

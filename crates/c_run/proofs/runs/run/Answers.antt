@@ -1,11 +1,11 @@
 use Rattle.std.proofs.Common.{◌≡◌, Some, sym, ap, ◌∙◌, subst, IfOk}
-use Rattle.std.specs.Prelude.{IsTrue, slice_get}
+use Rattle.std.specs.Prelude.{slice_get}
 use Rattle.c_tree.specs.Programs.{Program}
-use Rattle.c_tree.specs.Runs.{are_of, input_types}
+use Rattle.c_tree.specs.Runs.{param_types, arguments}
 use Rattle.c_run.specs.Ends.{ended}
-use Rattle.c_run.specs.Machine.{begun}
+use Rattle.c_run.specs.Machine.{entered}
 use Rattle.c_run.specs.declared.machine.Given.{Given}
-use Rattle.c_run.proofs.Exact.{cost_fits, ended_is, run_none, run_some}
+use Rattle.c_run.proofs.Exact.{ended_is, run_none, run_some}
 use Rattle.c_run.proofs.runs.run.Goals as goal
 
 pub returns-in-None : goal.returns-in-None
@@ -13,13 +13,13 @@ returns-in-None c =
     let entry = c.in-None.ensures.value ∙ ap (λ (p : Program). slice_get p.funcs p.entry) c.program.view_is in
     record { end = sym (ap (ended c.args.costs.now) (run_none c.args.program.now c.args.input.now (sym entry))) }
 
-pub start-requires : goal.start-requires
-start-requires c =
+pub start_of-requires : goal.start_of-requires
+start_of-requires c =
     let entry = c.in-Some.ensures.value ∙ ap (λ (p : Program). slice_get p.funcs p.entry) c.program.view_is in
-    record { formed = c.program_is_well_formed.ensures; entry = sym entry; fits = subst (λ zs. IsTrue (are_of (input_types c.args.program.now) zs)) (sym c.as_slice.ensures) c.requires.fits }
+    record { formed = c.program_is_well_formed.ensures.globals; entry = sym entry; fits = c.requires.fits }
 
-pub returns-in-Some : goal.returns-in-Some
-returns-in-Some c =
+pub returns-in_ok-start_of-in-Some : goal.returns-in_ok-start_of-in-Some
+returns-in_ok-start_of-in-Some c =
     let p = c.args.program.now in
     let t = c.args.costs.now in
     let i = c.args.input.now in
@@ -28,4 +28,6 @@ returns-in-Some c =
     let entry = c.in-Some.ensures.value ∙ ap (λ (p : Program). slice_get p.funcs p.entry) c.program.view_is in
     let there : slice_get p.funcs p.entry ≡ Some h = sym entry in
     let is = run_some p i h there in
-    record { end = subst (λ x. IfOk c.start.result (λ e. e ≡ x)) (ap (begun g h) c.as_slice.ensures ∙ ended_is t h.result _ (λ u e. cost_fits p t c.program_is_well_formed.ensures c.costs_are_small.ensures i u (is ∙ e)) ∙ ap (ended t) (sym is)) c.start.ensures }
+    let s = c.in_ok-start_of-in-Some.ensures in
+    let begins = ap (λ vs. entered g h vs c.in_ok-start_of-in-Some.field-0.globals.items) s.arguments ∙ ap (entered g h (arguments (param_types h.params h.locals) i.values)) s.globals in
+    record { end = subst (λ x. IfOk c.run_entry.result (λ e. e ≡ x)) (begins ∙ ended_is t h.result _ (λ u e. c.costs_of_runs_fit.ensures i u (is ∙ e)) ∙ ap (ended t) (sym is)) c.run_entry.ensures }

@@ -1,7 +1,0 @@
-use Rattle.std.proofs.Common.{◌≡◌, ◌++◌, ◌-◌, drop, length}
-use Rattle.c_tree.specs.Runs.{param_types}
-use Rattle.c_run.proofs.inputs.entry_types.Given as goal
-
-abbrev pub invariant-loop-local : goal.invariant-loop-local
-invariant-loop-local l =
-    l.types ++ param_types (l.func.params - length l.types) (drop l.local-index l.locals) ≡ param_types l.func.params l.func.locals

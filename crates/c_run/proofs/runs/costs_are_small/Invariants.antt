@@ -1,6 +1,0 @@
-use Rattle.std.proofs.Common.{ℕ, ◌<◌}
-use Rattle.c_run.proofs.CostRows.{SmallAt}
-use Rattle.c_run.proofs.runs.costs_are_small.Given as goal
-
-abbrev pub invariant-loop-row : goal.invariant-loop-row
-invariant-loop-row l = (i : ℕ) → i < l.row-index → SmallAt l.rows i

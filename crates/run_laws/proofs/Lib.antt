@@ -1,0 +1,3 @@
+pub mod TraceLength
+pub mod RunCosts
+pub mod CostRows

@@ -1,0 +1,6 @@
+//! How dear the runs of a program are.
+#![tactic(auto)]
+
+mod costs;
+
+pub use costs::costs_of_runs_fit;
