@@ -1,7 +1,7 @@
 use Rattle.std.proofs.Common.{sym, ◌∙◌, subst}
-use Rattle.c_check.specs.Tables.{IsTable}
-use Rattle.c_check.proofs.NameTables.{IsTable-push}
-use Rattle.c_check.proofs.names.Names.declare.Goals as goal
+use Rattle.c_names.specs.Tables.{IsTable}
+use Rattle.c_names.proofs.NameTables.{IsTable-push}
+use Rattle.c_names.proofs.names.Names.declare.Goals as goal
 
 pub invariant_of-self-in-Ok-rebind : goal.invariant_of-self-in-Ok-rebind
 invariant_of-self-in-Ok-rebind c =

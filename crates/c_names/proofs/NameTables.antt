@@ -10,9 +10,9 @@ use Rattle.std.proofs.lemmas.Map.Text.{btree_map_updates_str}
 use Rattle.std.proofs.lemmas.Slice.Eq.{bytes_eq-Decides}
 use denote.Ref.{Bor}
 use Rattle.c_tree.specs.Scopes as scope
-use Rattle.c_check.specs.declared.names.Binding.{Binding}
-use Rattle.c_check.specs.declared.names.Declaration.{Declaration}
-use Rattle.c_check.specs.Tables.{known, known_of, known_as, last_binding, Rebinds, HideAfter, IsTable}
+use Rattle.c_names.specs.declared.names.Binding.{Binding}
+use Rattle.c_names.specs.declared.names.Declaration.{Declaration}
+use Rattle.c_names.specs.Tables.{known, known_of, known_as, last_binding, Rebinds, HideAfter, IsTable}
 
 option_or-assoc : {A : Type 0} (a b c : Option A) → option_or (option_or a b) c ≡ option_or a (option_or b c)
 option_or-assoc None b c = refl

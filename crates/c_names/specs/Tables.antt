@@ -6,10 +6,10 @@ use Rattle.std.specs.BTreeMap.{BTreeMap, get_by}
 use Rattle.std.specs.Cmp.Lexicographic.{slice_cmp}
 use denote.Ref.{Bor}
 use Rattle.c_tree.specs.Scopes as scope
-use Rattle.c_check.specs.declared.names.Entity.{Entity}
-use Rattle.c_check.specs.declared.names.Entity.TheVariants.{Variable, Function}
-use Rattle.c_check.specs.declared.names.Binding.{Binding}
-use Rattle.c_check.specs.declared.names.Declaration.{Declaration}
+use Rattle.c_names.specs.declared.names.Entity.{Entity}
+use Rattle.c_names.specs.declared.names.Entity.TheVariants.{Variable, Function}
+use Rattle.c_names.specs.declared.names.Binding.{Binding}
+use Rattle.c_names.specs.declared.names.Declaration.{Declaration}
 
 -- what the code's entities are
 abbrev pub entity_of : Entity → scope.Entity

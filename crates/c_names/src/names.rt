@@ -2,7 +2,7 @@
 
 ghost use Rattle.std.specs.Prelude.{◌≡◌, ◌++◌, ◌<◌, ◌≤◌, ◌-◌, ℕ, List, ◌∷◌, [], length, take, OnOk, OnErr, option_map, Option};
 ghost use Rattle.c_tree.specs.Scopes as scope;
-ghost use Rattle.c_check.specs.Tables.{known, last_binding, IsTable, Rebinds, entity_of, known_as};
+ghost use Rattle.c_names.specs.Tables.{known, last_binding, IsTable, Rebinds, entity_of, known_as};
 
 use c_tree::{NoMemory, Ty, Var};
 use std::alloc::Global;
@@ -10,9 +10,9 @@ use std::collections::BTreeMap;
 use std::marker::Model;
 
 /// What a name stands for (C11 6.2.1): a variable, whether it is an array and whether it is `const`; or the function of a
-/// number.
+/// number, its number of parameters and its result.
 #[derive(Clone, Copy)]
-pub(crate) enum Entity {
+pub enum Entity {
     Variable {
         var: Var,
         array: bool,
@@ -25,14 +25,14 @@ pub(crate) enum Entity {
     },
 }
 
-/// What a name stands for, and the depth of the scope that declares it.
+// What a name stands for, and the depth of the scope that declares it.
 #[derive(Clone, Copy)]
 pub(crate) struct Binding {
     pub(crate) depth: usize,
     pub(crate) entity: Entity,
 }
 
-/// A declared name, and the binding of the same name that it hides.
+// A declared name, and the binding of the same name that it hides.
 #[derive(Clone, Copy)]
 pub(crate) struct Declaration<'a> {
     pub(crate) name: &'a [u8],
@@ -40,9 +40,10 @@ pub(crate) struct Declaration<'a> {
     pub(crate) hidden: Option<Binding>,
 }
 
-/// The names in scope in the order of their declarations, with the last binding of each at hand.
+/// The names in scope in the order of their declarations, hidden ones among them, with the last binding of each at hand.
+/// Bytes of names are compared. A look-up takes the logarithm of how many names there are.
 #[derive(Drop)]
-pub(crate) struct Names<'a> {
+pub struct Names<'a> {
     latest: BTreeMap<&'a [u8], Binding>,
     declared: Vec<Declaration<'a>>,
 }
@@ -57,7 +58,7 @@ impl<'a> Model for Names<'a> {
 
 impl Entity {
     /// The variable, if it is one; else any.
-    pub(crate) fn variable(entity: Option<Entity>) -> Var
+    pub fn variable(entity: Option<Entity>) -> Var
         ensures { result ≡ scope.variable (option_map entity_of entity) }
     {
         match entity {
@@ -68,7 +69,7 @@ impl Entity {
     }
 
     /// The function's number, if it is one; else any.
-    pub(crate) fn function_number(entity: Option<Entity>) -> u32
+    pub fn function_number(entity: Option<Entity>) -> u32
         ensures { result ≡ scope.function_number (option_map entity_of entity) }
     {
         match entity {
@@ -80,7 +81,8 @@ impl Entity {
 }
 
 impl<'a> Names<'a> {
-    pub(crate) fn new(alloc: Global) -> Self
+    /// No names.
+    pub fn new(alloc: Global) -> Self
         ensures { result ≡ [] }
     {
         Names {
@@ -90,21 +92,21 @@ impl<'a> Names<'a> {
     }
 
     /// How many names are in scope, hidden ones among them.
-    pub(crate) fn len(&self) -> usize
+    pub fn count(&self) -> usize
         ensures { result ≡ length self.now }
     {
         self.declared.len()
     }
 
-    /// The last binding of a name.
-    pub(crate) fn latest(&self, name: &[u8]) -> Option<Binding>
+    // The last binding of a name.
+    fn latest(&self, name: &[u8]) -> Option<Binding>
         ensures { option_map (known_as name.now) result ≡ scope.latest self.now name.now }
     {
         self.latest.get(name).copied()
     }
 
-    /// What a name stands for.
-    pub(crate) fn entity(&self, name: &[u8]) -> Option<Entity>
+    /// What a name stands for, if it is in scope.
+    pub fn entity(&self, name: &[u8]) -> Option<Entity>
         ensures { option_map entity_of result ≡ scope.entity_of self.now name.now }
     {
         match self.latest(name) {
@@ -114,7 +116,7 @@ impl<'a> Names<'a> {
     }
 
     /// Whether the scope of this depth, the innermost one, has the name already.
-    pub(crate) fn is_known_at(&self, depth: usize, name: &[u8]) -> bool
+    pub fn is_known_at(&self, depth: usize, name: &[u8]) -> bool
         ensures { result ≡ scope.is_known_at self.now depth name.now }
     {
         match self.latest(name) {
@@ -123,8 +125,8 @@ impl<'a> Names<'a> {
         }
     }
 
-    /// Declares a name. At want of memory the names are as before.
-    pub(crate) fn declare(
+    /// Declares a name in the scope of this depth. At want of memory the names are as before.
+    pub fn declare(
         &mut self,
         name: &'a [u8],
         depth: usize,
@@ -153,7 +155,7 @@ impl<'a> Names<'a> {
         }
     }
 
-    /// Takes back the last declaration. At want of memory the names are as before.
+    // Takes back the last declaration. At want of memory the names are as before.
     fn undo(&mut self) -> Result<(), NoMemory>
         requires { 0 < length self.old }
         ensures one { OnOk result (self.new ≡ take (length self.old - 1) self.old) }
@@ -168,11 +170,11 @@ impl<'a> Names<'a> {
         Ok(())
     }
 
-    /// Takes back all declarations but the first `count`.
-    pub(crate) fn close(&mut self, count: usize) -> Result<(), NoMemory>
+    /// Takes back all declarations but the first `count`. At want of memory some of the later ones may be left.
+    pub fn close(&mut self, count: usize) -> Result<(), NoMemory>
         ensures { OnOk result (self.new ≡ take count self.old) }
     {
-        while self.len() > count {
+        while self.count() > count {
             self.undo()?;
         }
         Ok(())

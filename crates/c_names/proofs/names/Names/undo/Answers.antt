@@ -1,10 +1,10 @@
 use Rattle.std.proofs.Common.{◌≡◌, ◌++◌, ◌<◌, ◌-◌, [], ◌∷◌, ℕ, List, Some, Option, length, get_or, vec_len, sym, ap, ◌∙◌, subst, arith}
 use Rattle.std.specs.Option.{option_to_list}
 use Rattle.std.proofs.lemmas.Grind.{common_steps}
-use Rattle.c_check.specs.declared.names.Declaration.{Declaration}
-use Rattle.c_check.specs.Tables.{IsTable}
-use Rattle.c_check.proofs.NameTables.{IsTable-front}
-use Rattle.c_check.proofs.names.Names.undo.Goals as goal
+use Rattle.c_names.specs.declared.names.Declaration.{Declaration}
+use Rattle.c_names.specs.Tables.{IsTable}
+use Rattle.c_names.proofs.NameTables.{IsTable-front}
+use Rattle.c_names.proofs.names.Names.undo.Goals as goal
 
 pub invariant_of-self-2 : goal.invariant_of-self-2
 invariant_of-self-2 c =

@@ -1,5 +1,5 @@
 use Rattle.std.proofs.Common.{◌≡◌, take, length}
-use Rattle.c_check.proofs.names.Names.close.Given as goal
+use Rattle.c_names.proofs.names.Names.close.Given as goal
 
 -- the first declarations are as before
 abbrev pub invariant-loop-self : goal.invariant-loop-self

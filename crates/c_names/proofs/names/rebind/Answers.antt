@@ -1,9 +1,9 @@
 use Rattle.std.proofs.Common.{Option, Some, sym, ap, ◌∙◌}
 use Rattle.std.specs.Prelude.{bytes_eq, if◌then◌else◌}
-use Rattle.c_check.specs.declared.names.Binding.{Binding}
-use Rattle.c_check.specs.Tables.{looked_up}
-use Rattle.c_check.proofs.NameTables.{Rebinds-changed}
-use Rattle.c_check.proofs.names.rebind.Goals as goal
+use Rattle.c_names.specs.declared.names.Binding.{Binding}
+use Rattle.c_names.specs.Tables.{looked_up}
+use Rattle.c_names.proofs.NameTables.{Rebinds-changed}
+use Rattle.c_names.proofs.names.rebind.Goals as goal
 
 pub returns-in-Ok-clause-rebound : goal.returns-in-Ok-clause-rebound
 returns-in-Ok-clause-rebound c = λ q.

@@ -1,8 +1,8 @@
 use Rattle.std.proofs.Common.{sym, ap, ◌∙◌, option_map}
 use Rattle.c_tree.specs.Scopes as scope
-use Rattle.c_check.specs.Tables.{known_as}
-use Rattle.c_check.proofs.NameTables.{latest-known}
-use Rattle.c_check.proofs.names.Names.latest.Goals as goal
+use Rattle.c_names.specs.Tables.{known_as}
+use Rattle.c_names.proofs.NameTables.{latest-known}
+use Rattle.c_names.proofs.names.Names.latest.Goals as goal
 
 pub returns : goal.returns
 returns c =
