@@ -1,9 +1,6 @@
 //! Why a unit is no program.
 
-ghost use Rattle.std.specs.Prelude.{◌≡◌, IsTrue, ◌↔◌, ◌<◌, ◌⊎◌};
-ghost use Rattle.c_tree.specs.Refusals.{number};
-ghost use Rattle.c_check.specs.Verdicts.{fault_of, refusal_of, precedes};
-
+use c_faults::{Fault, Refusal};
 use c_tree::NoMemory;
 
 /// Why a unit is no program. A place is the offset of a byte in the text, or the text's length. Of several faults the one
@@ -61,72 +58,9 @@ impl From<NoMemory> for CheckFault {
     }
 }
 
-/// What is wrong, without its place.
-#[derive(Clone, Copy)]
-pub(crate) enum Fault {
-    NoName,
-    Twice,
-    Kind,
-    Arity,
-    NoValue,
-    Const,
-    Stray,
-    NoBound,
-    BoundRange,
-    NoEntry,
-    LaterCall,
-    ArrayLength,
-    Inputs,
-    NoInit,
-    Span,
-}
-
-impl Fault {
-    // Its number in the order in which faults are told.
-    fn number(self) -> u8
-        ensures { result ≡ number (fault_of self) }
-    {
-        match self {
-            Fault::NoName => 1,
-            Fault::Twice => 2,
-            Fault::Kind => 3,
-            Fault::Arity => 4,
-            Fault::NoValue => 5,
-            Fault::Const => 6,
-            Fault::Stray => 7,
-            Fault::NoBound => 8,
-            Fault::BoundRange => 9,
-            Fault::NoEntry => 10,
-            Fault::LaterCall => 11,
-            Fault::ArrayLength => 12,
-            Fault::Inputs => 13,
-            Fault::NoInit => 14,
-            Fault::Span => 15,
-        }
-    }
-}
-
-/// A fault and its place.
-#[derive(Clone, Copy)]
-pub(crate) struct Refusal {
-    pub(crate) fault: Fault,
-    pub(crate) at: u32,
-}
-
-impl Refusal {
-    /// Whether this one is told before another.
-    pub(crate) fn precedes(self, other: Refusal) -> bool
-        ensures { result ≡ precedes (refusal_of self) (refusal_of other) }
-    {
-        let first = self.fault.number();
-        let second = other.fault.number();
-        first < second || first == second && self.at < other.at
-    }
-}
-
 impl From<Refusal> for CheckFault {
     ghost use Rattle.std.specs.Prelude.{◌≡◌, Some};
-    ghost use Rattle.c_check.specs.Verdicts.{refusal_of};
+    ghost use Rattle.c_faults.specs.Verdicts.{refusal_of};
     ghost use Rattle.c_check.specs.Answers.{told};
 
     ghost from_gives = { λ r e. told e ≡ Some (refusal_of r) };

@@ -1,12 +1,11 @@
 -- The first of the refusals that are heard of.
-use Rattle.std.specs.Prelude.{Bool, ◌&&◌, ◌||◌, ◌==◌, nat_lt, if◌then◌else◌, List, [], ◌∷◌, Option, Some, None, option_map}
+use Rattle.std.specs.Prelude.{Bool, ◌&&◌, ◌||◌, ◌==◌, nat_lt, if◌then◌else◌, List, [], ◌∷◌, Option, Some, None}
 use Rattle.c_tree.specs.Uses.{Use}
 use Rattle.c_tree.specs.Refusals as spec
 use Rattle.c_tree.specs.Refusals.{number, faults_of}
-use Rattle.c_check.specs.declared.fault.Fault.{Fault}
-use Rattle.c_check.specs.declared.fault.Fault.TheVariants as fault
-use Rattle.c_check.specs.declared.fault.Refusal.{Refusal}
-use Rattle.c_check.specs.declared.verdict.Verdict.{Verdict}
+use Rattle.c_faults.specs.declared.fault.Fault.{Fault}
+use Rattle.c_faults.specs.declared.fault.Fault.TheVariants as fault
+use Rattle.c_faults.specs.declared.fault.Refusal.{Refusal}
 
 abbrev pub fault_of : Fault → spec.Fault
 fault_of fault.NoName = spec.NoName
@@ -49,7 +48,3 @@ after_use f u = after_all f (faults_of u)
 unfoldable pub after_uses : Option spec.Refusal → List Use → Option spec.Refusal
 after_uses f [] = f
 after_uses f (u ∷ us) = after_uses (after_use f u) us
-
--- the first refusal that the code has heard of
-abbrev pub first_of : Verdict → Option spec.Refusal
-first_of v = option_map refusal_of v.first

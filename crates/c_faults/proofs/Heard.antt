@@ -2,7 +2,7 @@
 use Rattle.std.proofs.Common.{◌≡◌, List, [], ◌∷◌, ◌++◌, Option, refl}
 use Rattle.c_tree.specs.Uses.{Use}
 use Rattle.c_tree.specs.Refusals.{Refusal}
-use Rattle.c_check.specs.Verdicts.{after_use, after_uses}
+use Rattle.c_faults.specs.Verdicts.{after_use, after_uses}
 
 pub after_uses-none : (f : Option Refusal) → after_uses f [] ≡ f
 unfolding after_uses

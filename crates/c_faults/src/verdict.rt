@@ -3,34 +3,53 @@
 ghost use Rattle.std.specs.Prelude.{◌≡◌, None, Some, option_map};
 ghost use Rattle.c_tree.specs.Uses as uses;
 ghost use Rattle.c_tree.specs.Refusals.{where_true, refusal, is_misread, is_constant};
-ghost use Rattle.c_check.specs.Tables.{entity_of};
-ghost use Rattle.c_check.specs.Verdicts.{fault_of, after_one, after_all, after_use, first_of};
+ghost use Rattle.c_names.specs.Tables.{entity_of};
+ghost use Rattle.c_faults.specs.Verdicts.{fault_of, after_one, after_all, after_use, refusal_of};
 
 use crate::fault::{Fault, Refusal};
-use crate::names::Entity;
+use c_names::Entity;
 use c_tree::{RawBound, Value};
+use std::marker::Model;
 
 /// The greatest bound of a loop.
-pub(crate) const MAX_BOUND: u64 = 1_048_576;
+pub const MAX_BOUND: u64 = 1_048_576;
 /// The greatest length of an array.
 const MAX_LENGTH: u32 = 64;
 
 /// Of the refusals so far the one that is told: the first by its fault's number, and then by its place.
 #[derive(Drop)]
-pub(crate) struct Verdict {
-    pub(crate) first: Option<Refusal>,
+pub struct Verdict {
+    first: Option<Refusal>,
+}
+
+impl Model for Verdict {
+    ghost use Rattle.std.specs.Prelude.{Option, option_map};
+    ghost use Rattle.c_tree.specs.Refusals as spec;
+    ghost use Rattle.c_faults.specs.Verdicts.{refusal_of};
+
+    ghost Value = { Option spec.Refusal };
+
+    ghost view = { λ v. option_map refusal_of v.first };
 }
 
 impl Verdict {
-    pub(crate) fn new() -> Verdict
-        ensures { first_of result ≡ None }
+    /// Nothing is wrong so far.
+    pub fn new() -> Verdict
+        ensures { result ≡ None }
     {
         Verdict { first: None }
     }
 
+    /// The refusal that is told, if anything is wrong.
+    pub fn first(&self) -> Option<Refusal>
+        ensures { option_map refusal_of result ≡ self.now }
+    {
+        self.first
+    }
+
     /// Hears of a fault.
-    pub(crate) fn refuse(&mut self, fault: Fault, at: u32)
-        ensures { first_of self.new ≡ after_one (first_of self.old) (refusal (fault_of fault) at) }
+    pub fn refuse(&mut self, fault: Fault, at: u32)
+        ensures { self.new ≡ after_one self.old (refusal (fault_of fault) at) }
     {
         let refusal = Refusal { fault, at };
         match self.first {
@@ -44,8 +63,8 @@ impl Verdict {
     }
 
     /// Hears of a fault where there is one.
-    pub(crate) fn refuse_if(&mut self, is_wrong: bool, fault: Fault, at: u32)
-        ensures { first_of self.new ≡ after_all (first_of self.old) (where_true is_wrong (fault_of fault) at) }
+    pub fn refuse_if(&mut self, is_wrong: bool, fault: Fault, at: u32)
+        ensures { self.new ≡ after_all self.old (where_true is_wrong (fault_of fault) at) }
     {
         if is_wrong {
             self.refuse(fault, at);
@@ -54,8 +73,8 @@ impl Verdict {
 
     /// A name that is read, and whether an index follows it.
     #[tactic(auto, unfolding(crate::specs::Verdicts::after_use))]
-    pub(crate) fn read(&mut self, at: u32, entity: Option<Entity>, indexed: bool)
-        ensures { first_of self.new ≡ after_use (first_of self.old) (uses.Read at (option_map entity_of entity) indexed) }
+    pub fn read(&mut self, at: u32, entity: Option<Entity>, indexed: bool)
+        ensures { self.new ≡ after_use self.old (uses.Read at (option_map entity_of entity) indexed) }
     {
         match entity {
             None => self.refuse(Fault::NoName, at),
@@ -65,8 +84,8 @@ impl Verdict {
 
     /// A name that is assigned to, and whether an index follows it.
     #[tactic(auto, unfolding(crate::specs::Verdicts::after_use))]
-    pub(crate) fn assigned(&mut self, at: u32, entity: Option<Entity>, indexed: bool)
-        ensures { first_of self.new ≡ after_use (first_of self.old) (uses.Assigned at (option_map entity_of entity) indexed) }
+    pub fn assigned(&mut self, at: u32, entity: Option<Entity>, indexed: bool)
+        ensures { self.new ≡ after_use self.old (uses.Assigned at (option_map entity_of entity) indexed) }
     {
         match entity {
             None => self.refuse(Fault::NoName, at),
@@ -79,7 +98,7 @@ impl Verdict {
 
     /// A called name, the number of arguments, whether the result goes somewhere, and the calling function.
     #[tactic(auto, unfolding(crate::specs::Verdicts::after_use))]
-    pub(crate) fn called(
+    pub fn called(
         &mut self,
         at: u32,
         entity: Option<Entity>,
@@ -87,7 +106,7 @@ impl Verdict {
         is_used: bool,
         caller: u32,
     )
-        ensures { first_of self.new ≡ after_use (first_of self.old) (uses.Called at (option_map entity_of entity) arguments is_used caller) }
+        ensures { self.new ≡ after_use self.old (uses.Called at (option_map entity_of entity) arguments is_used caller) }
     {
         match entity {
             None => self.refuse(Fault::NoName, at),
@@ -108,16 +127,16 @@ impl Verdict {
 
     /// A declared name, and whether its scope has it already.
     #[tactic(auto, unfolding(crate::specs::Verdicts::after_use))]
-    pub(crate) fn declared(&mut self, at: u32, again: bool)
-        ensures { first_of self.new ≡ after_use (first_of self.old) (uses.Declared at again) }
+    pub fn declared(&mut self, at: u32, again: bool)
+        ensures { self.new ≡ after_use self.old (uses.Declared at again) }
     {
         self.refuse_if(again, Fault::Twice, at);
     }
 
     /// An array's length and how long its list is, and whether it is a local.
     #[tactic(auto, unfolding(crate::specs::Verdicts::after_use))]
-    pub(crate) fn sized(&mut self, at: u32, length: u32, list: Option<usize>, local: bool)
-        ensures { first_of self.new ≡ after_use (first_of self.old) (uses.Sized at length list local) }
+    pub fn sized(&mut self, at: u32, length: u32, list: Option<usize>, local: bool)
+        ensures { self.new ≡ after_use self.old (uses.Sized at length list local) }
     {
         let too_long = match list {
             None => false,
@@ -130,16 +149,16 @@ impl Verdict {
 
     /// The value of an expression that is to be a constant.
     #[tactic(auto, unfolding(crate::specs::Verdicts::after_use))]
-    pub(crate) fn constant(&mut self, at: u32, value: Option<Value>)
-        ensures { first_of self.new ≡ after_use (first_of self.old) (uses.Constant at value) }
+    pub fn constant(&mut self, at: u32, value: Option<Value>)
+        ensures { self.new ≡ after_use self.old (uses.Constant at value) }
     {
         self.refuse_if(value.is_none(), Fault::Const, at);
     }
 
     /// `return`, whether it has a value, and whether the function has a result.
     #[tactic(auto, unfolding(crate::specs::Verdicts::after_use))]
-    pub(crate) fn returned(&mut self, at: u32, value: bool, has_result: bool)
-        ensures { first_of self.new ≡ after_use (first_of self.old) (uses.Returned at value has_result) }
+    pub fn returned(&mut self, at: u32, value: bool, has_result: bool)
+        ensures { self.new ≡ after_use self.old (uses.Returned at value has_result) }
     {
         let is_wrong = if value { !has_result } else { has_result };
         self.refuse_if(is_wrong, Fault::NoValue, at);
@@ -147,16 +166,16 @@ impl Verdict {
 
     /// `break` or `continue`, and whether a loop is around it.
     #[tactic(auto, unfolding(crate::specs::Verdicts::after_use))]
-    pub(crate) fn left(&mut self, at: u32, looped: bool)
-        ensures { first_of self.new ≡ after_use (first_of self.old) (uses.Left at looped) }
+    pub fn left(&mut self, at: u32, looped: bool)
+        ensures { self.new ≡ after_use self.old (uses.Left at looped) }
     {
         self.refuse_if(!looped, Fault::Stray, at);
     }
 
     /// The first word of a loop, and its bound.
     #[tactic(auto, unfolding(crate::specs::Verdicts::after_use))]
-    pub(crate) fn looped(&mut self, at: u32, bound: Option<RawBound>)
-        ensures { first_of self.new ≡ after_use (first_of self.old) (uses.Looped at bound) }
+    pub fn looped(&mut self, at: u32, bound: Option<RawBound>)
+        ensures { self.new ≡ after_use self.old (uses.Looped at bound) }
     {
         match bound {
             None => self.refuse(Fault::NoBound, at),

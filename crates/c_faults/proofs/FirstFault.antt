@@ -6,7 +6,7 @@ use Rattle.std.proofs.lemmas.List.Elements.{All-nil, All-cons}
 use Rattle.std.proofs.lemmas.Bool.Decides.{nat_tests}
 use Rattle.c_tree.specs.Uses.{Use}
 use Rattle.c_tree.specs.Refusals.{Refusal, number, faults_of, IsFirstOf}
-use Rattle.c_check.specs.Verdicts.{precedes, after_one, after_all, after_use, after_uses}
+use Rattle.c_faults.specs.Verdicts.{precedes, after_one, after_all, after_use, after_uses}
 
 -- ---- after lists
 
