@@ -1,0 +1,2 @@
+pub mod CappedSpans
+pub mod WideSpans
