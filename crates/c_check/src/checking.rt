@@ -13,7 +13,7 @@ use crate::fault::CheckFault;
 use crate::entry;
 use c_faults::{Fault, Verdict};
 use c_resolve::{Resolved, resolve};
-use c_spans::spans;
+use c_spans::function_spans;
 use c_tree::{Func, Global as Outside, NoMemory, Program, RawTop, Unit};
 use sqlite_items::Items;
 use std::alloc::Global;
@@ -72,7 +72,7 @@ fn judged(alloc: Global, unit: &Unit, entry: &[u8]) -> Result<(Named, Verdict), 
     let (named, mut verdict) = walked(alloc, unit, entry)?;
     ask_of_entry(unit, entry, &mut verdict);
     ask_of_inputs(unit, entry, &mut verdict);
-    let spans = spans(alloc, named.funcs.as_slice())?;
+    let spans = function_spans(alloc, named.funcs.as_slice())?;
     ask_of_spans(&spans, unit.tops.as_slice(), &mut verdict);
     Ok((named, verdict))
 }

@@ -3,4 +3,4 @@
 
 mod spans;
 
-pub use spans::spans;
+pub use spans::function_spans;
