@@ -1,14 +1,11 @@
-use Rattle.std.proofs.Common.{◌≡◌, ◌<◌, ◌+◌, ◌*◌, ℕ, List, ◌∷◌, length, get_or, suc, false, drop, sym, ap, ◌∙◌, add-one, drop-cons}
+use Rattle.std.proofs.Common.{◌+◌, ◌*◌, false, drop, sym, ap, ◌∙◌}
 use Rattle.c_tree.specs.Blocks.{is_simple}
 use Rattle.c_tree.specs.Spans.{span, list_span}
 use Rattle.c_tree.proofs.SpanLayers.{span-For}
 use Rattle.c_spans.specs.Capped.{capped}
 use Rattle.c_spans.proofs.CappedSpans.{capped-twice, capped-step, for_capped}
+use Rattle.c_spans.proofs.Items.{next_item}
 use Rattle.c_spans.proofs.spans.+spans.Goals as goal
-
--- the item at i, and the rest
-next_item : {A : Type 0} (xs : List A) (i : ℕ) (x : A) → i < length xs → x ≡ get_or xs i x → drop i xs ≡ x ∷ drop (i + 1) xs
-next_item xs i x below is = drop-cons xs i x below ∙ ap (λ y. y ∷ drop (suc i) xs) (sym is) ∙ ap (λ j. x ∷ drop j xs) (sym (add-one i))
 
 pub list_span-loop-stmt-preserved : goal.list_span-loop-stmt-preserved
 list_span-loop-stmt-preserved t c =

@@ -2,7 +2,7 @@ use Rattle.std.proofs.Common.{◌≡◌, ℕ, ◌+◌, ◌*◌, Option, sym, ap,
 use Rattle.std.specs.Prelude.{unwrap_or}
 use Rattle.c_spans.specs.Capped.{capped}
 use Rattle.c_spans.proofs.CappedSpans.{capped-right}
-use Rattle.c_spans.proofs.Steps.{found_at, none_at}
+use Rattle.c_spans.proofs.Items.{found_at, none_at}
 use Rattle.c_spans.proofs.spans.call.Goals as goal
 
 pub returns-in-Some : goal.returns-in-Some
