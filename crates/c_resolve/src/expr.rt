@@ -78,7 +78,7 @@ fn element(
     x: &Spot,
     i: &Boxed<RawExpr>,
 ) -> Result<Expr, NoMemory>
-    ensures tree { IfOk result (λ x. x ≡ spec.expr_of names.now (raw.Elem x.now i.now)) }
+    ensures tree { IfOk result (λ t. t ≡ spec.expr_of names.now (raw.Elem x.now i.now)) }
     ensures first { OnOk result (verdict.new ≡ after_uses verdict.old (expr_uses names.now (raw.Elem x.now i.now))) }
 {
     let entity = read(names, verdict, x, true);
