@@ -9,8 +9,8 @@ ghost use Rattle.c_faults.specs.Verdicts.{after_all, after_uses};
 ghost use Rattle.c_check.specs.Answers.{told};
 ghost use Rattle.c_check.specs.Parts.{with_parts};
 
-use crate::fault::CheckFault;
 use crate::entry;
+use crate::fault::CheckFault;
 use c_faults::{Fault, Verdict};
 use c_resolve::{Resolved, resolve};
 use c_spans::function_spans;

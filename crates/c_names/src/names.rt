@@ -126,12 +126,7 @@ impl<'a> Names<'a> {
     }
 
     /// Declares a name in the scope of this depth. At want of memory the names are as before.
-    pub fn declare(
-        &mut self,
-        name: &'a [u8],
-        depth: usize,
-        entity: Entity,
-    ) -> Result<(), NoMemory>
+    pub fn declare(&mut self, name: &'a [u8], depth: usize, entity: Entity) -> Result<(), NoMemory>
         ensures declared { OnOk result (self.new ≡ self.old ++ (record { name = name.now; depth = depth; entity = entity_of entity }) ∷ []) }
         ensures same { OnErr result (self.new ≡ self.old) }
     {

@@ -10,9 +10,9 @@ ghost use Rattle.c_resolve.specs.Entered.{entered};
 ghost use Rattle.c_faults.specs.Verdicts.{after_use, after_uses};
 ghost use Rattle.c_resolve.specs.Walks.{scope_of, within, IsOuter, ended};
 
-use c_names::{Entity, Names};
-use c_faults::Verdict;
 use crate::expr;
+use c_faults::Verdict;
+use c_names::{Entity, Names};
 use c_tree::{Local, Name, NoMemory, RawExpr, RawFunc, RawParam, RawShape, Spot, Stmt, Ty, Var};
 use sqlite_items::Items;
 use std::alloc::Global;

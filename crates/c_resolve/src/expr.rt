@@ -10,8 +10,8 @@ ghost use Rattle.c_tree.specs.declared.unit.RawExpr.TheVariants as raw;
 ghost use Rattle.c_names.specs.Tables.{entity_of};
 ghost use Rattle.c_faults.specs.Verdicts.{after_use, after_uses};
 
-use c_names::{Entity, Names};
 use c_faults::Verdict;
+use c_names::{Entity, Names};
 use c_tree::{BinOp, Expr, NoMemory, RawExpr, RawShape, Spot, Ty, Value};
 use sqlite_items::{Boxed, Items};
 use std::alloc::Global;

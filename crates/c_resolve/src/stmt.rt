@@ -10,8 +10,8 @@ ghost use Rattle.c_resolve.specs.Walks.{scope_of, within, option_behind, option_
 
 use crate::checker::Checker;
 use crate::expr;
-use c_names::Entity;
 use c_faults::MAX_BOUND;
+use c_names::Entity;
 use c_tree::{
     BinOp, NoMemory, Place, RawBound, RawExpr, RawPlace, RawStmt, RawTarget, Spot, Stmt, Target,
 };

@@ -10,9 +10,9 @@ ghost use Rattle.c_faults.specs.Verdicts.{after_use, after_uses};
 ghost use Rattle.c_resolve.specs.Files.{file_of, top_funcs, top_globals, outer_length, func_count};
 
 use crate::checker::{Body, Checker};
-use c_names::{Entity, Names};
-use c_faults::Verdict;
 use crate::expr;
+use c_faults::Verdict;
+use c_names::{Entity, Names};
 use c_tree::{
     Func, Global as Outside, Name, NoMemory, RawExpr, RawFunc, RawShape, RawTop, Spot, Ty, Var,
 };
