@@ -29,12 +29,14 @@ pub(crate) struct Named {
     pub(crate) entry: u32,
 }
 
-/// The program of a unit whose runs begin with the function `entry`: the unit with its names replaced by numbers, where no
-/// fault stands. A name is in scope from the end of its declarator, its own initialiser included, to the end of the list or
-/// the `for` that declares it (C11 6.2.1); functions are known in the whole unit. Bytes of names are compared.
+/// The program of a unit whose runs begin with the function `entry`: the unit with its names replaced by numbers,
+/// where no fault stands. A name is in scope from the end of its declarator, its own initialiser included, to the end
+/// of the list or the `for` that declares it (C11 6.2.1); functions are known in the whole unit. Bytes of names are
+/// compared.
 ///
-/// The unit is one that the tokens of some text spell, whatever its height, and is consumed. Of the faults that stand the
-/// first of `CheckFault` is told, and of that one the smallest place. Want of memory may be told in place of either answer.
+/// The unit is one that the tokens of some text spell, whatever its height, and is consumed. Of the faults that stand
+/// the first of `CheckFault` is told, and of that one the smallest place. Want of memory may be told in place of
+/// either answer.
 pub fn check(alloc: Global, unit: Unit, entry: &str) -> Result<Program, CheckFault>
     requires spelled { IsSpelled unit }
     ensures program { IfOk result (Typed unit entry.now) }

@@ -9,8 +9,8 @@ use std::alloc::Global;
 use std::collections::BTreeMap;
 use std::marker::Model;
 
-/// What a name stands for (C11 6.2.1): a variable, whether it is an array and whether it is `const`; or the function of a
-/// number, its number of parameters and its result.
+/// What a name stands for (C11 6.2.1): a variable, whether it is an array and whether it is `const`; or the function
+/// of a number, its number of parameters and its result.
 #[derive(Clone, Copy)]
 pub enum Entity {
     Variable {
@@ -40,8 +40,8 @@ pub(crate) struct Declaration<'a> {
     pub(crate) hidden: Option<Binding>,
 }
 
-/// The names in scope in the order of their declarations, hidden ones among them, with the last binding of each at hand.
-/// Bytes of names are compared. A look-up takes the logarithm of how many names there are.
+/// The names in scope in the order of their declarations, hidden ones among them, with the last binding of each at
+/// hand. Bytes of names are compared. A look-up takes the logarithm of how many names there are.
 #[derive(Drop)]
 pub struct Names<'a> {
     latest: BTreeMap<&'a [u8], Binding>,

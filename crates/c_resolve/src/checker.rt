@@ -18,8 +18,8 @@ use sqlite_items::Items;
 use std::alloc::Global;
 use std::mem;
 
-/// Where the walk stands: the names in scope, the depth of the innermost scope, the function's locals so far, its number and
-/// what it returns, whether a loop is around, and what is wrong so far.
+/// Where the walk stands: the names in scope, the depth of the innermost scope, the function's locals so far, its
+/// number and what it returns, whether a loop is around, and what is wrong so far.
 #[derive(Drop)]
 pub(crate) struct Checker<'a> {
     pub(crate) alloc: Global,
@@ -32,7 +32,8 @@ pub(crate) struct Checker<'a> {
     pub(crate) verdict: Verdict,
 }
 
-/// What is kept of a scope while one inside it is open: its depth, whether a loop is around it, and how many names it has.
+/// What is kept of a scope while one inside it is open: its depth, whether a loop is around it, and how many names it
+/// has.
 #[derive(Clone, Copy)]
 pub(crate) struct Outer {
     pub(crate) depth: usize,

@@ -12,8 +12,8 @@ use c_tree::{Func, Global as Outside, NoMemory, Unit};
 use sqlite_items::Items;
 use std::alloc::Global;
 
-/// The globals and the functions of a unit with its names replaced by numbers, and what is wrong with its uses. Where a fault
-/// stands a name may have any number.
+/// The globals and the functions of a unit with its names replaced by numbers, and what is wrong with its uses. Where
+/// a fault stands a name may have any number.
 #[derive(Drop)]
 pub struct Resolved {
     pub globals: Items<Outside>,
@@ -21,10 +21,10 @@ pub struct Resolved {
     pub verdict: Verdict,
 }
 
-/// A unit with its names replaced by numbers, and the first fault of its single uses: of its names, kinds, calls, constants,
-/// arrays, loops, and of what leaves them. A name is in scope from the end of its declarator, its own initialiser included, to
-/// the end of the list or the `for` that declares it (C11 6.2.1); functions are known in the whole unit. It fails for want of
-/// memory alone.
+/// A unit with its names replaced by numbers, and the first fault of its single uses: of its names, kinds, calls,
+/// constants, arrays, loops, and of what leaves them. A name is in scope from the end of its declarator, its own
+/// initialiser included, to the end of the list or the `for` that declares it (C11 6.2.1); functions are known in the
+/// whole unit. It fails for want of memory alone.
 pub fn resolve(alloc: Global, unit: &Unit) -> Result<Resolved, NoMemory>
     ensures globals { IfOk result (λ r. r.globals ≡ globals_of unit.now.tops) }
     ensures funcs { IfOk result (λ r. r.funcs ≡ funcs_of (started unit.now.tops) unit.now.tops) }

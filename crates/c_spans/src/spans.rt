@@ -133,8 +133,8 @@ fn capped_spans(alloc: Global, funcs: &[Func]) -> Result<Vec<u128>, NoMemory>
     Ok(above)
 }
 
-/// The span of each function, the sum of the scales of its blocks with calls inlined; 2^64 + 1 where it is above 2^64. It
-/// fails for want of memory alone.
+/// The span of each function, the sum of the scales of its blocks with calls inlined; 2^64 + 1 where it is above
+/// 2^64. It fails for want of memory alone.
 #[tactic(auto, using(crate::proofs::CappedSpans::spans_capped))]
 pub fn function_spans(alloc: Global, funcs: &[Func]) -> Result<Vec<u128>, NoMemory>
     ensures { IfOk result (λ v. v.items ≡ map capped (spans [] funcs.now)) }
