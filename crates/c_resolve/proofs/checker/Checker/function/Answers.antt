@@ -11,6 +11,6 @@ returns-clause-names c =
     let xs = c.as_slice-2.result.now in
     let last = c.in_ok-stmts.ensures.scope ∙ ap (λ u. list_behind u xs) (c.in_ok-params.ensures.scope ∙ ap (λ u. with_params u ps) c.enter.ensures.scope) in
     c.in_ok-close.ensures
-    ∙ ap (λ (n : ℕ). take n c.stmts.new.self.names) c.len-count.ensures
+    ∙ ap (λ (n : ℕ). take n c.stmts.new.self.names) c.count-count.ensures
     ∙ ap (λ (u : Scope). take (length c.args.self.now.names) u.known) last
     ∙ taken_back s ps xs
