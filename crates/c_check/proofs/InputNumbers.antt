@@ -4,7 +4,7 @@ use Rattle.std.specs.Prelude.{slice_get}
 use Rattle.c_tree.specs.declared.unit.RawTop.{RawTop}
 use Rattle.c_tree.specs.declared.unit.RawTop.TheVariants as top
 use Rattle.c_tree.specs.Refusals.{outer_count, outer_inputs}
-use Rattle.c_check.proofs.Steps.{append_nil}
+use Rattle.c_resolve.proofs.Steps.{append_nil}
 
 pub among_copies : {A : Type 0} (n : ℕ) (x : A) (ys : List A) (k : ℕ) → k < n → slice_get (replicate n x ++ ys) k ≡ Some x
 among_copies zero x ys k h = absurd (omega arith)

@@ -1,14 +1,2 @@
-pub mod ConstantLayers
-pub mod NameTables
-pub mod Heard
-pub mod UseLayers
-pub mod Steps
-pub mod StmtLayers
-pub mod Growth
-pub mod ForLoops
-pub mod FileLayers
-pub mod CappedSpans
-pub mod FirstFault
-pub mod WideSpans
 pub mod InputNumbers
 pub mod Judged

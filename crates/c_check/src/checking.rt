@@ -5,15 +5,15 @@ ghost use Rattle.c_tree.specs.Checked.{IsSpelled};
 ghost use Rattle.c_tree.specs.Naming.{program_of, entry_number};
 ghost use Rattle.c_tree.specs.Uses.{uses};
 ghost use Rattle.c_tree.specs.Refusals.{Typed, IsRefused, faults, wide, no_entries, too_many_inputs};
-ghost use Rattle.c_check.specs.Verdicts.{first_of, after_all, after_uses};
+ghost use Rattle.c_faults.specs.Verdicts.{after_all, after_uses};
 ghost use Rattle.c_check.specs.Answers.{told};
 ghost use Rattle.c_check.specs.Parts.{with_parts};
 
-use crate::checker::Checker;
-use crate::fault::{CheckFault, Fault};
-use crate::unit::UnitChecker;
-use crate::verdict::Verdict;
-use crate::{entry, spans};
+use crate::entry;
+use crate::fault::CheckFault;
+use c_faults::{Fault, Verdict};
+use c_resolve::{Resolved, resolve};
+use c_spans::function_spans;
 use c_tree::{Func, Global as Outside, NoMemory, Program, RawTop, Unit};
 use sqlite_items::Items;
 use std::alloc::Global;
@@ -29,12 +29,14 @@ pub(crate) struct Named {
     pub(crate) entry: u32,
 }
 
-/// The program of a unit whose runs begin with the function `entry`: the unit with its names replaced by numbers, where no
-/// fault stands. A name is in scope from the end of its declarator, its own initialiser included, to the end of the list or
-/// the `for` that declares it (C11 6.2.1); functions are known in the whole unit. Bytes of names are compared.
+/// The program of a unit whose runs begin with the function `entry`: the unit with its names replaced by numbers,
+/// where no fault stands. A name is in scope from the end of its declarator, its own initialiser included, to the end
+/// of the list or the `for` that declares it (C11 6.2.1); functions are known in the whole unit. Bytes of names are
+/// compared.
 ///
-/// The unit is one that the tokens of some text spell, whatever its height, and is consumed. Of the faults that stand the
-/// first of `CheckFault` is told, and of that one the smallest place. Want of memory may be told in place of either answer.
+/// The unit is one that the tokens of some text spell, whatever its height, and is consumed. Of the faults that stand
+/// the first of `CheckFault` is told, and of that one the smallest place. Want of memory may be told in place of
+/// either answer.
 pub fn check(alloc: Global, unit: Unit, entry: &str) -> Result<Program, CheckFault>
     requires spelled { IsSpelled unit }
     ensures program { IfOk result (Typed unit entry.now) }
@@ -58,7 +60,7 @@ fn faultless(alloc: Global, unit: &Unit, entry: &str) -> Result<Named, CheckFaul
     ensures refused { IfErr result (λ e. IfSome (told e) (IsRefused unit.now entry.now)) }
 {
     let (named, verdict) = judged(alloc, unit, entry.as_bytes())?;
-    match verdict.first {
+    match verdict.first() {
         None => Ok(named),
         Some(refusal) => Err(refusal.into()),
     }
@@ -67,12 +69,12 @@ fn faultless(alloc: Global, unit: &Unit, entry: &str) -> Result<Named, CheckFaul
 // A unit with its names replaced by numbers, and the first of its faults.
 fn judged(alloc: Global, unit: &Unit, entry: &[u8]) -> Result<(Named, Verdict), NoMemory>
     ensures named { IfOk result (λ r. with_parts r.0 ≡ program_of unit.now entry.now) }
-    ensures first { IfOk result (λ r. first_of r.1 ≡ after_all None (faults unit.now entry.now)) }
+    ensures first { IfOk result (λ r. r.1 ≡ after_all None (faults unit.now entry.now)) }
 {
     let (named, mut verdict) = walked(alloc, unit, entry)?;
     ask_of_entry(unit, entry, &mut verdict);
     ask_of_inputs(unit, entry, &mut verdict);
-    let spans = spans::spans(alloc, named.funcs.as_slice())?;
+    let spans = function_spans(alloc, named.funcs.as_slice())?;
     ask_of_spans(&spans, unit.tops.as_slice(), &mut verdict);
     Ok((named, verdict))
 }
@@ -80,17 +82,13 @@ fn judged(alloc: Global, unit: &Unit, entry: &[u8]) -> Result<(Named, Verdict), 
 // A unit with its names replaced by numbers, and the first fault of its single uses.
 fn walked(alloc: Global, unit: &Unit, entry: &[u8]) -> Result<(Named, Verdict), NoMemory>
     ensures named { IfOk result (λ r. with_parts r.0 ≡ program_of unit.now entry.now) }
-    ensures first { IfOk result (λ r. first_of r.1 ≡ after_uses None (uses unit.now)) }
+    ensures first { IfOk result (λ r. r.1 ≡ after_uses None (uses unit.now)) }
 {
-    let tops = unit.tops.as_slice();
-    let mut walk = UnitChecker::start(alloc, tops)?;
-    walk.tops(tops)?;
-    let UnitChecker {
-        checker,
+    let Resolved {
         globals,
         funcs,
-    } = walk;
-    let Checker { verdict, .. } = checker;
+        verdict,
+    } = resolve(alloc, unit)?;
     let entry = first_entry(funcs.as_slice(), entry)?;
     let named = Named {
         globals,
@@ -116,7 +114,7 @@ fn first_entry(funcs: &[Func], name: &[u8]) -> Result<u32, NoMemory>
 
 // No function has the entry's name.
 fn ask_of_entry(unit: &Unit, entry: &[u8], verdict: &mut Verdict)
-    ensures { first_of verdict.new ≡ after_all (first_of verdict.old) (no_entries unit.now entry.now) }
+    ensures { verdict.new ≡ after_all verdict.old (no_entries unit.now entry.now) }
 {
     let is_missing = entry::func_named(unit.tops.as_slice(), entry).is_none();
     verdict.refuse_if(is_missing, Fault::NoEntry, unit.end);
@@ -124,7 +122,7 @@ fn ask_of_entry(unit: &Unit, entry: &[u8], verdict: &mut Verdict)
 
 // A 65th input number.
 fn ask_of_inputs(unit: &Unit, entry: &[u8], verdict: &mut Verdict)
-    ensures { first_of verdict.new ≡ after_all (first_of verdict.old) (too_many_inputs unit.now entry.now) }
+    ensures { verdict.new ≡ after_all verdict.old (too_many_inputs unit.now entry.now) }
 {
     let tops = unit.tops.as_slice();
     let extra = match entry::func_named(tops, entry) {
@@ -138,7 +136,7 @@ fn ask_of_inputs(unit: &Unit, entry: &[u8], verdict: &mut Verdict)
 
 // A function whose span is above 2^64.
 fn ask_of_spans(spans: &[u128], tops: &[RawTop], verdict: &mut Verdict)
-    ensures { first_of verdict.new ≡ after_all (first_of verdict.old) (wide spans.now tops.now) }
+    ensures { verdict.new ≡ after_all verdict.old (wide spans.now tops.now) }
 {
     let mut number = 0;
     for top in tops {

@@ -5,7 +5,6 @@ ghost use Rattle.std.specs.Option.{option_copied};
 ghost use Rattle.c_tree.specs.Naming.{entry_number};
 ghost use Rattle.c_tree.specs.Refusals.{func_named, param_inputs, outer_count, outer_inputs};
 
-use crate::constants;
 use c_tree::{Func, RawExpr, RawFunc, RawParam, RawTop};
 
 /// The most input numbers.
@@ -38,7 +37,7 @@ fn outer_count(length: &Option<RawExpr>) -> usize
 {
     match length {
         None => 1,
-        Some(e) => constants::written_length(e) as usize,
+        Some(e) => c_constants::written_length(e) as usize,
     }
 }
 

@@ -1,30 +1,27 @@
 //! Why a unit is no program.
 
-ghost use Rattle.std.specs.Prelude.{◌≡◌, IsTrue, ◌↔◌, ◌<◌, ◌⊎◌};
-ghost use Rattle.c_tree.specs.Refusals.{number};
-ghost use Rattle.c_check.specs.Verdicts.{fault_of, refusal_of, precedes};
-
+use c_faults::{Fault, Refusal};
 use c_tree::NoMemory;
 
-/// Why a unit is no program. A place is the offset of a byte in the text, or the text's length. Of several faults the one
-/// that stands first in this list is told, and of that one the smallest place. What is said of a fault is read in a unit that
-/// has none before it in the list.
+/// Why a unit is no program. A place is the offset of a byte in the text, or the text's length. Of several faults the
+/// one that stands first in this list is told, and of that one the smallest place. What is said of a fault is read in
+/// a unit that has none before it in the list.
 #[derive(Clone, Copy, Debug, PartialEq, Eq)]
 pub enum CheckFault {
     /// A used name that is not in scope, or a called one that is no name of the unit in scope (C11 6.2.1).
     NoName { at: u32 },
     /// The later of two declarations of a name in one scope (6.7 paragraph 3). At file scope too, where C takes some.
     Twice { at: u32 },
-    /// The name of an array without index, of a scalar with one, of a function that is not called or of a variable that is
-    /// called, or an assignment to a `const` name (6.5.2.1, 6.5.2.2, 6.5.16).
+    /// The name of an array without index, of a scalar with one, of a function that is not called or of a variable
+    /// that is called, or an assignment to a `const` name (6.5.2.1, 6.5.2.2, 6.5.16).
     Kind { at: u32 },
     /// The name in a call with another number of arguments than parameters (6.5.2.2 paragraph 2).
     Arity { at: u32 },
-    /// The name of a called `void` function whose result goes somewhere, or a `return` with a value in a `void` function or
-    /// without one in another (6.3.2.2, 6.8.6.4).
+    /// The name of a called `void` function whose result goes somewhere, or a `return` with a value in a `void`
+    /// function or without one in another (6.3.2.2, 6.8.6.4).
     NoValue { at: u32 },
-    /// The first token of an initialiser at file scope, of an expression in a list there or of an array's length that has a
-    /// name in it, also where it is not evaluated, or is undefined (6.6, 6.7.9 paragraph 4).
+    /// The first token of an initialiser at file scope, of an expression in a list there or of an array's length that
+    /// has a name in it, also where it is not evaluated, or is undefined (6.6, 6.7.9 paragraph 4).
     Const { at: u32 },
     /// A `break` or `continue` outside a loop (6.8.6.2, 6.8.6.3).
     Stray { at: u32 },
@@ -36,8 +33,8 @@ pub enum CheckFault {
     NoEntry { at: u32 },
     /// The name of a called function that is the caller or is not defined above it.
     LaterCall { at: u32 },
-    /// The name of an array with a length outside 1 to 64, with a list that is longer than it, or with neither length nor
-    /// list.
+    /// The name of an array with a length outside 1 to 64, with a list that is longer than it, or with neither length
+    /// nor list.
     ArrayLength { at: u32 },
     /// The name that declares the 65th input number. The inputs are the entry function's parameters in order, then the
     /// extern variables in the order of their declarations, an array element by element.
@@ -61,72 +58,9 @@ impl From<NoMemory> for CheckFault {
     }
 }
 
-/// What is wrong, without its place.
-#[derive(Clone, Copy)]
-pub(crate) enum Fault {
-    NoName,
-    Twice,
-    Kind,
-    Arity,
-    NoValue,
-    Const,
-    Stray,
-    NoBound,
-    BoundRange,
-    NoEntry,
-    LaterCall,
-    ArrayLength,
-    Inputs,
-    NoInit,
-    Span,
-}
-
-impl Fault {
-    // Its number in the order in which faults are told.
-    fn number(self) -> u8
-        ensures { result ≡ number (fault_of self) }
-    {
-        match self {
-            Fault::NoName => 1,
-            Fault::Twice => 2,
-            Fault::Kind => 3,
-            Fault::Arity => 4,
-            Fault::NoValue => 5,
-            Fault::Const => 6,
-            Fault::Stray => 7,
-            Fault::NoBound => 8,
-            Fault::BoundRange => 9,
-            Fault::NoEntry => 10,
-            Fault::LaterCall => 11,
-            Fault::ArrayLength => 12,
-            Fault::Inputs => 13,
-            Fault::NoInit => 14,
-            Fault::Span => 15,
-        }
-    }
-}
-
-/// A fault and its place.
-#[derive(Clone, Copy)]
-pub(crate) struct Refusal {
-    pub(crate) fault: Fault,
-    pub(crate) at: u32,
-}
-
-impl Refusal {
-    /// Whether this one is told before another.
-    pub(crate) fn precedes(self, other: Refusal) -> bool
-        ensures { result ≡ precedes (refusal_of self) (refusal_of other) }
-    {
-        let first = self.fault.number();
-        let second = other.fault.number();
-        first < second || first == second && self.at < other.at
-    }
-}
-
 impl From<Refusal> for CheckFault {
     ghost use Rattle.std.specs.Prelude.{◌≡◌, Some};
-    ghost use Rattle.c_check.specs.Verdicts.{refusal_of};
+    ghost use Rattle.c_faults.specs.Verdicts.{refusal_of};
     ghost use Rattle.c_check.specs.Answers.{told};
 
     ghost from_gives = { λ r e. told e ≡ Some (refusal_of r) };

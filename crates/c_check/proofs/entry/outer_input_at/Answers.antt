@@ -1,7 +1,7 @@
 use Rattle.std.proofs.Common.{◌+◌, drop, sym, ap, ◌∙◌}
 use Rattle.std.specs.Prelude.{slice_get}
 use Rattle.c_tree.specs.Refusals.{outer_inputs}
-use Rattle.c_check.proofs.Steps.{next_item}
+use Rattle.c_resolve.proofs.Steps.{next_item}
 use Rattle.c_check.proofs.InputNumbers.{among_copies, behind_copies, outer_inputs-cons}
 use Rattle.c_check.proofs.entry.outer_input_at.Goals as goal
 
