@@ -3,9 +3,10 @@
 ghost use Rattle.std.specs.Prelude.{◌≡◌, ◌<◌, ℕ, List, [], ◌∷◌, length};
 ghost use Rattle.c_tree.specs.SpelledExpressions as grammar;
 ghost use Rattle.c_tree.specs.Symbols as spec;
-ghost use Rattle.c_parse.specs.Going as reading;
+ghost use Rattle.parse_laws.specs.Going as reading;
 
 use c_tree::{BinOp, Kind, Symbol, Ty, UnOp};
+use parse_laws::Next;
 
 fn word(spelling: &[u8]) -> Symbol
     ensures { result ≡ spec.look_up spec.words spelling.now }
@@ -141,15 +142,6 @@ pub(crate) fn bound_of(kind: Kind) -> u64
         Kind::Bound(number) => number,
         _ => 0,
     }
-}
-
-/// How an expression goes on with the next token: not at all, as the condition of a `?`, or as the left operand of a
-/// binary operator.
-#[derive(Clone, Copy, Debug, PartialEq, Eq)]
-pub(crate) enum Next {
-    Stop,
-    Ask,
-    By(BinOp),
 }
 
 /// How an expression goes on with the symbol.

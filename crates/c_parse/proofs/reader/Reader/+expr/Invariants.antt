@@ -1,5 +1,5 @@
 use Rattle.std.proofs.Common.{◌≡◌, ◌-◌, ◌≤◌, ◌+◌, ◌*◌}
-use Rattle.c_parse.specs.ReadExpr as spec
+use Rattle.parse_laws.specs.ReadExpr as spec
 use Rattle.c_parse.proofs.reader.Reader.+expr.Given as goal
 
 abbrev pub decreases-expr : goal.decreases-expr
