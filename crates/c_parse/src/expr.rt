@@ -183,6 +183,20 @@ impl<'a> Reader<'a> {
         binary(self.alloc(), op, left, right)
     }
 
+    /// The two expressions that a `?` chooses from.
+    #[cycle(expr)]
+    #[tactic(auto, unfolding(parse_laws::specs::ReadExpr::choices))]
+    fn choices(&mut self, room: usize) -> Result<(MeasuredExpr, MeasuredExpr), Fault>
+        requires { room < 999 }
+        ensures first { IfOk result (λ p. p.0.height ≤ room) }
+        ensures second { IfOk result (λ p. p.1.height ≤ room) }
+        ensures reads { Reads (λ p. (p.0.expr, p.1.expr)) (spec.choices (spec.expr room) self.old) result self.new }
+    {
+        let a = self.expr_before(room, Symbol::Colon)?;
+        let b = self.expr(room, 0)?;
+        Ok((a, b))
+    }
+
     /// The `?` that comes next, and the two expressions that it chooses from.
     #[cycle(expr)]
     #[tactic(auto, unfolding(parse_laws::specs::ReadExpr::conditional))]
@@ -194,9 +208,7 @@ impl<'a> Reader<'a> {
         ensures reads { Reads (λ t. t.expr) (spec.conditional (spec.expr room) left.expr self.old) result self.new }
     {
         self.take();
-        let a = self.expr(room, 0)?;
-        self.expect(Symbol::Colon)?;
-        let b = self.expr(room, 0)?;
+        let (a, b) = self.choices(room)?;
         conditional(self.alloc(), left, a, b)
     }
 
@@ -256,6 +268,19 @@ impl<'a> Reader<'a> {
         element(self.alloc(), spot, a)
     }
 
+    /// An expression, and the symbol after it.
+    #[cycle(expr)]
+    #[tactic(auto, unfolding(parse_laws::specs::ReadExpr::expr_before))]
+    pub(crate) fn expr_before(&mut self, room: usize, mark: Symbol) -> Result<MeasuredExpr, Fault>
+        requires { room < 999 }
+        ensures low { IfOk result (λ t. t.height ≤ room) }
+        ensures reads { Reads (λ t. t.expr) (spec.expr_before (spec.expr room) mark self.old) result self.new }
+    {
+        let a = self.expr(room, 0)?;
+        self.expect(mark)?;
+        Ok(a)
+    }
+
     /// The brackets after a name, and what stands in them.
     #[cycle(expr)]
     #[tactic(auto, unfolding(parse_laws::specs::ReadExpr::index))]
@@ -265,9 +290,7 @@ impl<'a> Reader<'a> {
         ensures reads { Reads (λ t. t.expr) (spec.index (spec.expr room) self.old) result self.new }
     {
         self.expect(Symbol::LeftBracket)?;
-        let a = self.expr(room, 0)?;
-        self.expect(Symbol::RightBracket)?;
-        Ok(a)
+        self.expr_before(room, Symbol::RightBracket)
     }
 
     /// A cast, or an expression in parentheses.
@@ -308,8 +331,7 @@ impl<'a> Reader<'a> {
         ensures low { IfOk result (λ t. t.height ≤ room + 1) }
         ensures reads { Reads (λ t. t.expr) (spec.paren (spec.expr room) at self.old) result self.new }
     {
-        let a = self.expr(room, 0)?;
-        self.expect(Symbol::RightParen)?;
+        let a = self.expr_before(room, Symbol::RightParen)?;
         parenthesised(self.alloc(), at, a)
     }
 }

@@ -9,7 +9,7 @@ ghost use Rattle.c_tree.specs.SpelledStatements.{Plain, Body, Item};
 use crate::reader::Reader;
 use crate::simple::{one, only};
 use c_tree::{RawBound, RawExpr, RawShape, RawStmt, Symbol};
-use parse_laws::Fault;
+use parse_laws::{Fault, ForHead};
 use sqlite_items::{Boxed, Items};
 use std::alloc::Global;
 
@@ -28,8 +28,7 @@ impl<'a> Reader<'a> {
         ensures { Reads (λ x. x) (spec.condition room self.old) result self.new }
     {
         self.expect(Symbol::LeftParen)?;
-        let a = self.expr(room, 0)?;
-        self.expect(Symbol::RightParen)?;
+        let a = self.expr_before(room, Symbol::RightParen)?;
         Ok(a.expr)
     }
 
@@ -104,6 +103,34 @@ impl<'a> Reader<'a> {
         }
         let stmt = self.assignment(room - 1)?;
         held(self.alloc(), stmt)
+    }
+
+    /// What stands after the body of a `do`.
+    #[tactic(auto, unfolding(parse_laws::specs::ReadStmt::do_end))]
+    fn do_end(&mut self, room: usize) -> Result<RawExpr, Fault>
+        requires { room < 999 }
+        ensures { Reads (λ x. x) (spec.do_end room self.old) result self.new }
+    {
+        self.expect(Symbol::While)?;
+        let a = self.condition(room)?;
+        self.expect(Symbol::Semicolon)?;
+        Ok(a)
+    }
+
+    /// The head of a `for`.
+    #[tactic(auto, unfolding(parse_laws::specs::ReadStmt::for_head))]
+    fn for_head(&mut self, room: usize) -> Result<ForHead, Fault>
+        requires { room < 999 }
+        ensures { Reads (λ x. x) (spec.for_head room self.old) result self.new }
+    {
+        self.expect(Symbol::LeftParen)?;
+        let first = self.initialiser(room)?;
+        self.expect(Symbol::Semicolon)?;
+        let test = self.test(room)?;
+        self.expect(Symbol::Semicolon)?;
+        let last = self.step(room)?;
+        self.expect(Symbol::RightParen)?;
+        Ok(ForHead { first, test, last })
     }
 
     /// The bound of a loop, if there is one.
@@ -216,9 +243,7 @@ impl<'a> Reader<'a> {
     {
         let at = self.expect(Symbol::Do)?;
         let xs = self.body(room)?;
-        self.expect(Symbol::While)?;
-        let a = self.condition(room)?;
-        self.expect(Symbol::Semicolon)?;
+        let a = self.do_end(room)?;
         only(self.alloc(), RawStmt::Do(at, bound, xs, a))
     }
 
@@ -229,15 +254,12 @@ impl<'a> Reader<'a> {
         ensures { Reads (λ x. x) (spec.for_loop room (spec.statement room Body) bound self.old) result self.new }
     {
         let at = self.expect(Symbol::For)?;
-        self.expect(Symbol::LeftParen)?;
-        let first = self.initialiser(room)?;
-        self.expect(Symbol::Semicolon)?;
-        let a = self.test(room)?;
-        self.expect(Symbol::Semicolon)?;
-        let last = self.step(room)?;
-        self.expect(Symbol::RightParen)?;
+        let head = self.for_head(room)?;
         let xs = self.body(room)?;
-        only(self.alloc(), RawStmt::For(at, bound, first, a, last, xs))
+        only(
+            self.alloc(),
+            RawStmt::For(at, bound, head.first, head.test, head.last, xs),
+        )
     }
 
     /// A side of an `if`, or the body of a loop.
