@@ -2,7 +2,7 @@
 use Rattle.std.proofs.Common.{◌≡◌, ℕ, ◌<◌, suc, List, [], ◌∷◌, drop, get_or, length, refl, ap, sym, ◌∙◌, arith}
 use Rattle.c_tree.specs.declared.token.Token.{Token}
 use Rattle.c_tree.specs.Symbols.{Lexeme, lexeme, lexemes}
-use Rattle.c_parse.specs.Parser.{head, tail}
+use Rattle.parse_laws.specs.Parser.{head, tail}
 
 pub lexemes-none : (text : List ℕ) (ts : List Token) → length ts < 1 → lexemes text ts ≡ []
 unfolding lexemes

@@ -1,14 +1,9 @@
 -- What is said of the answer to a text with its tokens.
 use Rattle.std.specs.Prelude.{◌≡◌, ◌⊎◌, ℕ, List, length, Result, Ok, Err, Any}
 use Rattle.c_tree.specs.declared.token.Token.{Token}
-use Rattle.c_tree.specs.declared.unit.RawTop.{RawTop}
 use Rattle.c_tree.specs.declared.unit.Unit.{Unit as Tree}
 use Rattle.c_parse.specs.declared.fault.ParseFault.{ParseFault}
 use Rattle.c_parse.specs.declared.fault.ParseFault.TheVariants.{Syntax, Depth, NoMemory}
-
--- the tree of a text with these declarations and functions
-abbrev pub tree_of : List ℕ → List RawTop → Tree
-tree_of text tops = record { tops = tops; end = length text }
 
 -- this tree is the answer, unless memory was wanting
 abbrev pub Gives : Tree → Result Tree ParseFault → Type 0

@@ -1,20 +1,8 @@
--- Tokens within their text, and a token as a number.
+-- Tokens within their text.
 use Rattle.std.specs.Prelude.{ℕ, ◌≤◌, List, length}
 use Rattle.c_tree.specs.declared.token.Token.{Token}
-use Rattle.c_tree.specs.declared.unit.RawBound.{RawBound}
-use Rattle.c_tree.specs.declared.unit.RawExpr.{RawExpr}
-use Rattle.c_tree.specs.declared.unit.RawExpr.TheVariants as e
-use Rattle.c_tree.specs.Symbols.{Lexeme}
 
 -- the token lies within the text
 pub record IsWithin (text : List ℕ) (t : Token) : Type 0 where
   pub forward : t.from ≤ t.to
   pub inside : t.to ≤ length text
-
--- a token as an integer constant
-abbrev pub constant : Lexeme → RawExpr
-constant t = e.Num t.at t.ty t.value
-
--- and as the bound of a loop
-abbrev pub loop_bound : Lexeme → RawBound
-loop_bound t = record { at = t.at; value = t.value }

@@ -1,11 +1,3 @@
-pub mod Same
 pub mod Lexeme
-pub mod Parser
 pub mod Reads
-pub mod Going
-pub mod ReadExpr
-pub mod ReadSimple
-pub mod ReadDecl
-pub mod ReadStmt
-pub mod ReadUnit
 pub mod Answers

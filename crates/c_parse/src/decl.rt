@@ -2,20 +2,20 @@
 //! asked to be less than 1,000 keeps the heights that are computed far from an overflow.
 
 ghost use Rattle.std.specs.Prelude.{◌≡◌, ◌<◌};
-ghost use Rattle.c_parse.specs.Parser.{another, another_value, phrases};
-ghost use Rattle.c_parse.specs.ReadDecl as spec;
-ghost use Rattle.c_parse.specs.ReadExpr.{expr};
-ghost use Rattle.c_parse.specs.ReadSimple as simple;
+ghost use Rattle.parse_laws.specs.Parser.{another, another_value, phrases};
+ghost use Rattle.parse_laws.specs.ReadDecl as spec;
+ghost use Rattle.parse_laws.specs.ReadExpr.{expr};
+ghost use Rattle.parse_laws.specs.ReadSimple as simple;
 ghost use Rattle.c_parse.specs.Reads.{Reads};
 
-use crate::fault::Fault;
 use crate::reader::Reader;
 use c_tree::{RawExpr, RawShape, RawStmt, RawTarget, Symbol, Ty};
+use parse_laws::Fault;
 use sqlite_items::Items;
 
 impl<'a> Reader<'a> {
     /// Whether a declaration comes next.
-    #[tactic(auto, unfolding(crate::specs::ReadDecl::begins_declaration))]
+    #[tactic(auto, unfolding(parse_laws::specs::ReadDecl::begins_declaration))]
     pub(crate) fn begins_declaration(&self) -> bool
         ensures { result ≡ spec.begins_declaration self.now }
     {
@@ -23,7 +23,7 @@ impl<'a> Reader<'a> {
     }
 
     /// The values of a list, up to its `}` or to a comma before it.
-    #[tactic(auto, using(crate::proofs::Lists::list_turns))]
+    #[tactic(auto, using(parse_laws::proofs::Lists::list_turns))]
     fn value_list(&mut self, room: usize) -> Result<Items<RawExpr>, Fault>
         requires { room < 999 }
         ensures { Reads (λ x. x) (phrases another_value (expr room 0) self.old) result self.new }
@@ -41,7 +41,7 @@ impl<'a> Reader<'a> {
     }
 
     /// The length of an array, which may be missing.
-    #[tactic(auto, unfolding(crate::specs::ReadDecl::size))]
+    #[tactic(auto, unfolding(parse_laws::specs::ReadDecl::size))]
     fn size(&mut self, room: usize) -> Result<Option<RawExpr>, Fault>
         requires { room < 999 }
         ensures { Reads (λ x. x) (spec.size room self.old) result self.new }
@@ -56,7 +56,7 @@ impl<'a> Reader<'a> {
     }
 
     /// The list of an array.
-    #[tactic(auto, unfolding(crate::specs::ReadDecl::values))]
+    #[tactic(auto, unfolding(parse_laws::specs::ReadDecl::values))]
     fn values(&mut self, room: usize) -> Result<Items<RawExpr>, Fault>
         requires { room < 999 }
         ensures { Reads (λ x. x) (spec.values room self.old) result self.new }
@@ -69,7 +69,7 @@ impl<'a> Reader<'a> {
     }
 
     /// The list of an array, if there is one.
-    #[tactic(auto, unfolding(crate::specs::ReadDecl::filled))]
+    #[tactic(auto, unfolding(parse_laws::specs::ReadDecl::filled))]
     fn filled(&mut self, room: usize) -> Result<Option<Items<RawExpr>>, Fault>
         requires { room < 999 }
         ensures { Reads (λ x. x) (spec.filled room self.old) result self.new }
@@ -83,7 +83,7 @@ impl<'a> Reader<'a> {
     }
 
     /// The initialiser of a scalar, if there is one.
-    #[tactic(auto, unfolding(crate::specs::ReadDecl::initialised))]
+    #[tactic(auto, unfolding(parse_laws::specs::ReadDecl::initialised))]
     fn initialised(&mut self, room: usize) -> Result<Option<RawExpr>, Fault>
         requires { room < 999 }
         ensures { Reads (λ x. x) (spec.initialised room self.old) result self.new }
@@ -97,7 +97,7 @@ impl<'a> Reader<'a> {
     }
 
     /// What follows the name of a declarator.
-    #[tactic(auto, unfolding(crate::specs::ReadDecl::shaped))]
+    #[tactic(auto, unfolding(parse_laws::specs::ReadDecl::shaped))]
     pub(crate) fn shaped(&mut self, room: usize) -> Result<RawShape, Fault>
         requires { room < 999 }
         ensures { Reads (λ x. x) (spec.shaped room self.old) result self.new }
@@ -113,7 +113,7 @@ impl<'a> Reader<'a> {
     }
 
     /// A declarator of a local variable.
-    #[tactic(auto, unfolding(crate::specs::ReadDecl::declared, crate::specs::ReadDecl::declarator))]
+    #[tactic(auto, unfolding(parse_laws::specs::ReadDecl::declared, parse_laws::specs::ReadDecl::declarator))]
     fn declared(&mut self, room: usize, constant: bool, ty: Ty) -> Result<RawStmt, Fault>
         requires { room < 999 }
         ensures { Reads (λ x. x) (spec.declared room constant ty self.old) result self.new }
@@ -124,7 +124,7 @@ impl<'a> Reader<'a> {
     }
 
     /// Declarators with commas between them. Each takes a token, so there are enough turns.
-    #[tactic(auto, using(crate::proofs::Lists::list_turns))]
+    #[tactic(auto, using(parse_laws::proofs::Lists::list_turns))]
     fn declared_list(
         &mut self,
         room: usize,
@@ -146,7 +146,7 @@ impl<'a> Reader<'a> {
         Err(self.refuse())
     }
 
-    #[tactic(auto, unfolding(crate::specs::ReadDecl::declarators))]
+    #[tactic(auto, unfolding(parse_laws::specs::ReadDecl::declarators))]
     fn declarators(&mut self, room: usize, constant: bool, ty: Ty) -> Result<Items<RawStmt>, Fault>
         requires { room < 999 }
         ensures { Reads (λ x. x) (spec.declarators room constant ty self.old) result self.new }
@@ -157,7 +157,7 @@ impl<'a> Reader<'a> {
     }
 
     /// A call whose result is that of a declaration.
-    #[tactic(auto, unfolding(crate::specs::ReadSimple::call_into))]
+    #[tactic(auto, unfolding(parse_laws::specs::ReadSimple::call_into))]
     fn declared_call(
         &mut self,
         room: usize,
@@ -173,7 +173,7 @@ impl<'a> Reader<'a> {
     }
 
     /// A declaration of local variables, or of one that takes the result of a call.
-    #[tactic(auto, unfolding(crate::specs::ReadDecl::declaration))]
+    #[tactic(auto, unfolding(parse_laws::specs::ReadDecl::declaration))]
     pub(crate) fn declaration(&mut self, room: usize) -> Result<Items<RawStmt>, Fault>
         requires { room < 999 }
         ensures { Reads (λ x. x) (spec.declaration room self.old) result self.new }

@@ -3,21 +3,21 @@
 //! than 1,000 keeps the heights that are computed far from an overflow.
 
 ghost use Rattle.std.specs.Prelude.{◌≡◌, ◌-◌, ◌+◌, ◌<◌, ◌≤◌, max, [], length, Ok, IfOk};
-ghost use Rattle.c_parse.specs.ReadExpr as spec;
+ghost use Rattle.parse_laws.specs.ReadExpr as spec;
 ghost use Rattle.c_parse.specs.Reads.{Reads};
 
-use crate::fault::Fault;
 use crate::measured::MeasuredExpr;
 use crate::reader::Reader;
-use crate::symbol::{Next, binds, level, unary_operator};
+use crate::symbol::{binds, level, unary_operator};
 use c_tree::{BinOp, RawExpr, Spot, Symbol, Ty, UnOp};
+use parse_laws::{Fault, Next};
 use sqlite_items::Boxed;
 use std::alloc::Global;
 
 /// The level of the unary operators and casts.
 const UNARY: u8 = 11;
 
-#[tactic(auto, using(crate::proofs::Layers::height_layers))]
+#[tactic(auto, using(parse_laws::proofs::Layers::height_layers))]
 fn scalar(spot: Spot) -> MeasuredExpr
     ensures low { result.height ≡ 1 }
     ensures value { result.expr ≡ RawExpr.Name spot }
@@ -28,7 +28,7 @@ fn scalar(spot: Spot) -> MeasuredExpr
     }
 }
 
-#[tactic(auto, using(crate::proofs::Layers::height_layers))]
+#[tactic(auto, using(parse_laws::proofs::Layers::height_layers))]
 fn element(alloc: Global, spot: Spot, a: MeasuredExpr) -> Result<MeasuredExpr, Fault>
     requires { a.height < 1000 }
     ensures low { IfOk result (λ t. t.height ≡ a.height + 1) }
@@ -41,7 +41,7 @@ fn element(alloc: Global, spot: Spot, a: MeasuredExpr) -> Result<MeasuredExpr, F
     })
 }
 
-#[tactic(auto, using(crate::proofs::Layers::height_layers))]
+#[tactic(auto, using(parse_laws::proofs::Layers::height_layers))]
 fn unary(alloc: Global, at: u32, op: UnOp, a: MeasuredExpr) -> Result<MeasuredExpr, Fault>
     requires { a.height < 1000 }
     ensures low { IfOk result (λ t. t.height ≡ a.height + 1) }
@@ -54,7 +54,7 @@ fn unary(alloc: Global, at: u32, op: UnOp, a: MeasuredExpr) -> Result<MeasuredEx
     })
 }
 
-#[tactic(auto, using(crate::proofs::Layers::height_layers))]
+#[tactic(auto, using(parse_laws::proofs::Layers::height_layers))]
 fn cast(alloc: Global, at: u32, ty: Ty, a: MeasuredExpr) -> Result<MeasuredExpr, Fault>
     requires { a.height < 1000 }
     ensures low { IfOk result (λ t. t.height ≡ a.height + 1) }
@@ -67,7 +67,7 @@ fn cast(alloc: Global, at: u32, ty: Ty, a: MeasuredExpr) -> Result<MeasuredExpr,
     })
 }
 
-#[tactic(auto, using(crate::proofs::Layers::height_layers))]
+#[tactic(auto, using(parse_laws::proofs::Layers::height_layers))]
 fn parenthesised(alloc: Global, at: u32, inner: MeasuredExpr) -> Result<MeasuredExpr, Fault>
     requires { inner.height < 1000 }
     ensures low { IfOk result (λ t. t.height ≡ inner.height + 1) }
@@ -80,7 +80,7 @@ fn parenthesised(alloc: Global, at: u32, inner: MeasuredExpr) -> Result<Measured
     })
 }
 
-#[tactic(auto, using(crate::proofs::Layers::height_layers))]
+#[tactic(auto, using(parse_laws::proofs::Layers::height_layers))]
 fn binary(alloc: Global, op: BinOp, a: MeasuredExpr, b: MeasuredExpr) -> Result<MeasuredExpr, Fault>
     requires a { a.height < 1000 }
     requires b { b.height < 1000 }
@@ -94,7 +94,7 @@ fn binary(alloc: Global, op: BinOp, a: MeasuredExpr, b: MeasuredExpr) -> Result<
     })
 }
 
-#[tactic(auto, using(crate::proofs::Layers::height_layers))]
+#[tactic(auto, using(parse_laws::proofs::Layers::height_layers))]
 fn conditional(
     alloc: Global,
     a: MeasuredExpr,
@@ -121,7 +121,7 @@ fn conditional(
 impl<'a> Reader<'a> {
     /// An expression of the level `least` or a tighter one.
     #[cycle(expr)]
-    #[tactic(auto, using(crate::proofs::Turns::turns))]
+    #[tactic(auto, using(parse_laws::proofs::Turns::turns))]
     pub(crate) fn expr(&mut self, room: usize, least: u8) -> Result<MeasuredExpr, Fault>
         requires { room < 1000 }
         ensures low { IfOk result (λ t. t.height ≤ room) }
@@ -136,7 +136,7 @@ impl<'a> Reader<'a> {
 
     /// Goes on from the left operand `first` with the operators of the level `least` or a tighter one.
     #[cycle(expr)]
-    #[tactic(auto, using(crate::proofs::Turns::turns))]
+    #[tactic(auto, using(parse_laws::proofs::Turns::turns))]
     fn climb(&mut self, room: usize, least: u8, first: MeasuredExpr) -> Result<MeasuredExpr, Fault>
         requires some { 0 < room }
         requires few { room < 1000 }
@@ -165,7 +165,7 @@ impl<'a> Reader<'a> {
 
     /// The operator that comes next, and its right operand.
     #[cycle(expr)]
-    #[tactic(auto, using(crate::proofs::Turns::turns), unfolding(crate::specs::ReadExpr::operation))]
+    #[tactic(auto, using(parse_laws::proofs::Turns::turns), unfolding(parse_laws::specs::ReadExpr::operation))]
     fn operation(
         &mut self,
         room: usize,
@@ -183,9 +183,23 @@ impl<'a> Reader<'a> {
         binary(self.alloc(), op, left, right)
     }
 
+    /// The two expressions that a `?` chooses from.
+    #[cycle(expr)]
+    #[tactic(auto, unfolding(parse_laws::specs::ReadExpr::choices))]
+    fn choices(&mut self, room: usize) -> Result<(MeasuredExpr, MeasuredExpr), Fault>
+        requires { room < 999 }
+        ensures first { IfOk result (λ p. p.0.height ≤ room) }
+        ensures second { IfOk result (λ p. p.1.height ≤ room) }
+        ensures reads { Reads (λ p. (p.0.expr, p.1.expr)) (spec.choices (spec.expr room) self.old) result self.new }
+    {
+        let a = self.expr_before(room, Symbol::Colon)?;
+        let b = self.expr(room, 0)?;
+        Ok((a, b))
+    }
+
     /// The `?` that comes next, and the two expressions that it chooses from.
     #[cycle(expr)]
-    #[tactic(auto, unfolding(crate::specs::ReadExpr::conditional))]
+    #[tactic(auto, unfolding(parse_laws::specs::ReadExpr::conditional))]
     fn conditional(&mut self, room: usize, left: MeasuredExpr) -> Result<MeasuredExpr, Fault>
         requires some { 0 < length self.old }
         requires few { room < 999 }
@@ -194,14 +208,12 @@ impl<'a> Reader<'a> {
         ensures reads { Reads (λ t. t.expr) (spec.conditional (spec.expr room) left.expr self.old) result self.new }
     {
         self.take();
-        let a = self.expr(room, 0)?;
-        self.expect(Symbol::Colon)?;
-        let b = self.expr(room, 0)?;
+        let (a, b) = self.choices(room)?;
         conditional(self.alloc(), left, a, b)
     }
 
     #[cycle(expr)]
-    #[tactic(auto, using(crate::proofs::Turns::turns), unfolding(crate::specs::ReadExpr::operand))]
+    #[tactic(auto, using(parse_laws::proofs::Turns::turns), unfolding(parse_laws::specs::ReadExpr::operand))]
     fn operand(&mut self, room: usize) -> Result<MeasuredExpr, Fault>
         requires { room < 999 }
         ensures low { IfOk result (λ t. t.height ≤ room + 1) }
@@ -227,7 +239,7 @@ impl<'a> Reader<'a> {
 
     /// The unary operator that comes next, and its operand.
     #[cycle(expr)]
-    #[tactic(auto, unfolding(crate::specs::ReadExpr::unary))]
+    #[tactic(auto, unfolding(parse_laws::specs::ReadExpr::unary))]
     fn unary(&mut self, room: usize, op: UnOp) -> Result<MeasuredExpr, Fault>
         requires some { 0 < length self.old }
         requires few { room < 999 }
@@ -242,7 +254,7 @@ impl<'a> Reader<'a> {
 
     /// A scalar, or an element of an array.
     #[cycle(expr)]
-    #[tactic(auto, unfolding(crate::specs::ReadExpr::variable, crate::specs::ReadExpr::named))]
+    #[tactic(auto, unfolding(parse_laws::specs::ReadExpr::variable, parse_laws::specs::ReadExpr::named))]
     fn variable(&mut self, room: usize) -> Result<MeasuredExpr, Fault>
         requires { room < 999 }
         ensures low { IfOk result (λ t. t.height ≤ room + 1) }
@@ -256,23 +268,34 @@ impl<'a> Reader<'a> {
         element(self.alloc(), spot, a)
     }
 
+    /// An expression, and the symbol after it.
+    #[cycle(expr)]
+    #[tactic(auto, unfolding(parse_laws::specs::ReadExpr::expr_before))]
+    pub(crate) fn expr_before(&mut self, room: usize, mark: Symbol) -> Result<MeasuredExpr, Fault>
+        requires { room < 999 }
+        ensures low { IfOk result (λ t. t.height ≤ room) }
+        ensures reads { Reads (λ t. t.expr) (spec.expr_before (spec.expr room) mark self.old) result self.new }
+    {
+        let a = self.expr(room, 0)?;
+        self.expect(mark)?;
+        Ok(a)
+    }
+
     /// The brackets after a name, and what stands in them.
     #[cycle(expr)]
-    #[tactic(auto, unfolding(crate::specs::ReadExpr::index))]
+    #[tactic(auto, unfolding(parse_laws::specs::ReadExpr::index))]
     pub(crate) fn index(&mut self, room: usize) -> Result<MeasuredExpr, Fault>
         requires { room < 999 }
         ensures low { IfOk result (λ t. t.height ≤ room) }
         ensures reads { Reads (λ t. t.expr) (spec.index (spec.expr room) self.old) result self.new }
     {
         self.expect(Symbol::LeftBracket)?;
-        let a = self.expr(room, 0)?;
-        self.expect(Symbol::RightBracket)?;
-        Ok(a)
+        self.expr_before(room, Symbol::RightBracket)
     }
 
     /// A cast, or an expression in parentheses.
     #[cycle(expr)]
-    #[tactic(auto, unfolding(crate::specs::ReadExpr::parenthesised, crate::specs::ReadExpr::opened))]
+    #[tactic(auto, unfolding(parse_laws::specs::ReadExpr::parenthesised, parse_laws::specs::ReadExpr::opened))]
     fn parenthesised(&mut self, room: usize) -> Result<MeasuredExpr, Fault>
         requires { room < 999 }
         ensures low { IfOk result (λ t. t.height ≤ room + 1) }
@@ -288,7 +311,7 @@ impl<'a> Reader<'a> {
 
     /// What stands after the `(` of a cast, whose place is `at`.
     #[cycle(expr)]
-    #[tactic(auto, unfolding(crate::specs::ReadExpr::cast))]
+    #[tactic(auto, unfolding(parse_laws::specs::ReadExpr::cast))]
     fn cast(&mut self, room: usize, at: u32) -> Result<MeasuredExpr, Fault>
         requires { room < 999 }
         ensures low { IfOk result (λ t. t.height ≤ room + 1) }
@@ -302,14 +325,13 @@ impl<'a> Reader<'a> {
 
     /// What stands after the `(` of an expression in parentheses, whose place is `at`.
     #[cycle(expr)]
-    #[tactic(auto, unfolding(crate::specs::ReadExpr::paren))]
+    #[tactic(auto, unfolding(parse_laws::specs::ReadExpr::paren))]
     fn paren(&mut self, room: usize, at: u32) -> Result<MeasuredExpr, Fault>
         requires { room < 999 }
         ensures low { IfOk result (λ t. t.height ≤ room + 1) }
         ensures reads { Reads (λ t. t.expr) (spec.paren (spec.expr room) at self.old) result self.new }
     {
-        let a = self.expr(room, 0)?;
-        self.expect(Symbol::RightParen)?;
+        let a = self.expr_before(room, Symbol::RightParen)?;
         parenthesised(self.alloc(), at, a)
     }
 }

@@ -2,25 +2,6 @@
 
 use std::alloc::AllocError;
 
-/// Why the reader stopped. The number is how many tokens were not taken.
-#[derive(Clone, Copy, Debug, PartialEq, Eq)]
-pub(crate) enum Fault {
-    NoMemory,
-    Syntax(usize),
-    Depth(usize),
-}
-
-impl From<AllocError> for Fault {
-    ghost use Rattle.std.specs.Prelude.{◌≡◌};
-    ghost use Rattle.c_parse.specs.declared.fault.Fault.TheVariants.{NoMemory};
-
-    ghost from_gives = { λ _ e. e ≡ NoMemory };
-
-    fn from(_: AllocError) -> Fault {
-        Fault::NoMemory
-    }
-}
-
 /// Why a text has no tree.
 #[derive(Clone, Copy, Debug, PartialEq, Eq)]
 pub enum ParseFault {

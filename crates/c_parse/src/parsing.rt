@@ -9,9 +9,10 @@ ghost use Rattle.c_tree.specs.Spelling.{Spells};
 ghost use Rattle.c_parse.specs.Answers.{Gives, IsPlace, IsRefusal};
 ghost use Rattle.c_parse.specs.Lexeme.{IsWithin};
 
-use crate::fault::{Fault, ParseFault};
+use crate::fault::ParseFault;
 use crate::reader::Reader;
 use c_tree::{Token, Unit};
+use parse_laws::{Fault, law};
 use std::alloc::Global;
 
 /// The greatest height of a tree that is read.
@@ -71,7 +72,9 @@ pub fn parse(alloc: Global, text: &[u8], tokens: &[Token]) -> Result<Unit, Parse
 pub fn one_tree()
     ensures { (text : List ℕ) (tokens : List Token) (a b : Tree)
         → Spells text tokens a → Spells text tokens b → a ≡ b }
-{}
+{
+    law::one_tree();
+}
 
 /// The law that tokens in order lie within their text, as `parse` asks.
 pub fn ordered_tokens_are_within()

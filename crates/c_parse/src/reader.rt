@@ -3,14 +3,15 @@
 ghost use Rattle.std.specs.Prelude.{◌≡◌, ◌<◌, true, length, All, IfOk, Ok, Err};
 ghost use Rattle.c_tree.specs.Heights.{height};
 ghost use Rattle.c_tree.specs.Symbols.{lexeme, lexemes, spot};
-ghost use Rattle.c_parse.specs.Going as reading;
-ghost use Rattle.c_parse.specs.Lexeme.{IsWithin, constant, loop_bound};
-ghost use Rattle.c_parse.specs.Parser as spec;
+ghost use Rattle.parse_laws.specs.Going as reading;
+ghost use Rattle.c_parse.specs.Lexeme.{IsWithin};
+ghost use Rattle.parse_laws.specs.Lexeme.{constant, loop_bound};
+ghost use Rattle.parse_laws.specs.Parser as spec;
 ghost use Rattle.c_parse.specs.Reads.{Reads};
 
-use crate::fault::Fault;
-use crate::symbol::{Next, bound_of, constant_of, next_of, symbol_of};
+use crate::symbol::{bound_of, constant_of, next_of, symbol_of};
 use c_tree::{Name, RawBound, RawExpr, Spot, Symbol, Token, Ty};
+use parse_laws::{Fault, Next};
 use std::alloc::{AllocError, Global};
 use std::marker::Model;
 
@@ -25,7 +26,7 @@ pub(crate) struct Reader<'a> {
 impl<'a> Model for Reader<'a> {
     ghost use Rattle.std.specs.Prelude.{List, All};
     ghost use Rattle.c_tree.specs.Symbols.{Lexeme, lexemes};
-    ghost use Rattle.c_parse.specs.Going as reading;
+    ghost use Rattle.parse_laws.specs.Going as reading;
     ghost use Rattle.c_parse.specs.Lexeme.{IsWithin};
 
     ghost Value = { List Lexeme };
@@ -112,7 +113,7 @@ impl<'a> Reader<'a> {
     }
 
     /// The next token, an integer constant.
-    #[tactic(auto, using(crate::proofs::Tokens::front, crate::proofs::Layers::height_layers))]
+    #[tactic(auto, using(crate::proofs::Tokens::front, parse_laws::proofs::Layers::height_layers))]
     fn constant(&self) -> RawExpr
         requires some { 0 < length self.now }
         requires number { spec.sees Symbol.Number self.now ≡ true }
@@ -148,7 +149,7 @@ impl<'a> Reader<'a> {
     }
 
     /// Whether the next token is the symbol.
-    #[tactic(auto, unfolding(crate::specs::Parser::sees))]
+    #[tactic(auto, unfolding(parse_laws::specs::Parser::sees))]
     pub(crate) fn sees(&self, wanted: Symbol) -> bool
         ensures { result ≡ spec.sees wanted self.now }
     {
@@ -159,7 +160,7 @@ impl<'a> Reader<'a> {
     }
 
     /// Whether the token after the next one is the symbol.
-    #[tactic(auto, unfolding(crate::specs::Parser::sees_second))]
+    #[tactic(auto, unfolding(parse_laws::specs::Parser::sees_second))]
     pub(crate) fn sees_second(&self, wanted: Symbol) -> bool
         ensures { result ≡ spec.sees_second wanted self.now }
     {
@@ -184,7 +185,7 @@ impl<'a> Reader<'a> {
     }
 
     /// Reads the symbol, and gives its place.
-    #[tactic(auto, using(crate::proofs::Steps::seeing), unfolding(crate::specs::Parser::token))]
+    #[tactic(auto, using(parse_laws::proofs::Steps::seeing), unfolding(parse_laws::specs::Parser::token))]
     pub(crate) fn expect(&mut self, wanted: Symbol) -> Result<u32, Fault>
         ensures { Reads (λ x. x) (spec.expect wanted self.old) result self.new }
     {
@@ -197,7 +198,7 @@ impl<'a> Reader<'a> {
     }
 
     /// Reads a name.
-    #[tactic(auto, using(crate::proofs::Steps::seeing), unfolding(crate::specs::Parser::token))]
+    #[tactic(auto, using(parse_laws::proofs::Steps::seeing), unfolding(parse_laws::specs::Parser::token))]
     pub(crate) fn name(&mut self) -> Result<Spot, Fault>
         ensures { Reads (λ x. x) (spec.name self.old) result self.new }
     {
@@ -210,7 +211,7 @@ impl<'a> Reader<'a> {
     }
 
     /// Reads an integer constant.
-    #[tactic(auto, using(crate::proofs::Steps::seeing), unfolding(crate::specs::Parser::token))]
+    #[tactic(auto, using(parse_laws::proofs::Steps::seeing), unfolding(parse_laws::specs::Parser::token))]
     pub(crate) fn number(&mut self) -> Result<RawExpr, Fault>
         ensures low { IfOk result (λ a. height a ≡ 1) }
         ensures reads { Reads (λ x. x) (spec.number self.old) result self.new }
@@ -224,7 +225,7 @@ impl<'a> Reader<'a> {
     }
 
     /// Reads a loop bound.
-    #[tactic(auto, using(crate::proofs::Steps::seeing), unfolding(crate::specs::Parser::token))]
+    #[tactic(auto, using(parse_laws::proofs::Steps::seeing), unfolding(parse_laws::specs::Parser::token))]
     pub(crate) fn bound(&mut self) -> Result<RawBound, Fault>
         ensures { Reads (λ x. x) (spec.bound self.old) result self.new }
     {
@@ -237,7 +238,7 @@ impl<'a> Reader<'a> {
     }
 
     /// Reads the symbol if it comes next, and tells whether it did.
-    #[tactic(auto, using(crate::proofs::Steps::seeing), unfolding(crate::specs::Parser::optional))]
+    #[tactic(auto, using(parse_laws::proofs::Steps::seeing), unfolding(parse_laws::specs::Parser::optional))]
     pub(crate) fn optional(&mut self, word: Symbol) -> bool
         ensures { spec.optional word self.old ≡ Ok (result, self.new) }
     {
@@ -249,7 +250,7 @@ impl<'a> Reader<'a> {
     }
 
     /// Whether the name of a type comes next.
-    #[tactic(auto, unfolding(crate::specs::Parser::begins_type))]
+    #[tactic(auto, unfolding(parse_laws::specs::Parser::begins_type))]
     pub(crate) fn begins_type(&self) -> bool
         ensures { result ≡ spec.begins_type self.now }
     {
@@ -260,7 +261,7 @@ impl<'a> Reader<'a> {
     }
 
     /// Reads a word of a type, after which an `int` may stand.
-    #[tactic(auto, unfolding(crate::specs::Parser::with_int))]
+    #[tactic(auto, unfolding(parse_laws::specs::Parser::with_int))]
     fn with_int(&mut self, word: Symbol, ty: Ty) -> Result<Ty, Fault>
         ensures { Reads (λ x. x) (spec.with_int word ty self.old) result self.new }
     {
@@ -270,7 +271,7 @@ impl<'a> Reader<'a> {
     }
 
     /// Reads the name of a type.
-    #[tactic(auto, unfolding(crate::specs::Parser::type_name))]
+    #[tactic(auto, unfolding(parse_laws::specs::Parser::type_name))]
     pub(crate) fn type_name(&mut self) -> Result<Ty, Fault>
         ensures { Reads (λ x. x) (spec.type_name self.old) result self.new }
     {
@@ -286,7 +287,7 @@ impl<'a> Reader<'a> {
     }
 
     /// How an expression goes on with the next token.
-    #[tactic(auto, unfolding(crate::specs::Going::next))]
+    #[tactic(auto, unfolding(parse_laws::specs::Going::next))]
     pub(crate) fn next(&self) -> Next
         ensures { result ≡ reading.next self.now }
     {
@@ -294,7 +295,7 @@ impl<'a> Reader<'a> {
     }
 
     /// Whether a further phrase comes, in a list of phrases with commas.
-    #[tactic(auto, unfolding(crate::specs::Parser::another))]
+    #[tactic(auto, unfolding(parse_laws::specs::Parser::another))]
     pub(crate) fn another(&self) -> bool
         ensures { result ≡ spec.another self.now }
     {
@@ -302,7 +303,7 @@ impl<'a> Reader<'a> {
     }
 
     /// Whether a further value comes, in a list that may end with a comma.
-    #[tactic(auto, unfolding(crate::specs::Parser::another_value))]
+    #[tactic(auto, unfolding(parse_laws::specs::Parser::another_value))]
     pub(crate) fn another_value(&self) -> bool
         ensures { result ≡ spec.another_value self.now }
     {
@@ -312,7 +313,7 @@ impl<'a> Reader<'a> {
 
 impl<'a> Reader<'a> {
     /// The reader past the next two tokens.
-    #[tactic(auto, using(crate::proofs::StmtTurns::next_symbol))]
+    #[tactic(auto, using(parse_laws::proofs::StmtTurns::next_symbol))]
     pub(crate) fn past_two(&self) -> Reader<'a>
         requires { 1 < length self.now }
         ensures { result ≡ spec.tail (spec.tail self.now) }

@@ -3,14 +3,14 @@
 //! overflow.
 
 ghost use Rattle.std.specs.Prelude.{◌≡◌, ◌<◌, [], ◌∷◌, length, Ok};
-ghost use Rattle.c_parse.specs.Parser.{another, phrases};
-ghost use Rattle.c_parse.specs.ReadExpr.{expr};
-ghost use Rattle.c_parse.specs.ReadSimple as spec;
+ghost use Rattle.parse_laws.specs.Parser.{another, phrases};
+ghost use Rattle.parse_laws.specs.ReadExpr.{expr};
+ghost use Rattle.parse_laws.specs.ReadSimple as spec;
 ghost use Rattle.c_parse.specs.Reads.{Reads};
 
-use crate::fault::Fault;
 use crate::reader::Reader;
 use c_tree::{BinOp, RawExpr, RawPlace, RawStmt, RawTarget, Symbol, Ty};
+use parse_laws::Fault;
 use sqlite_items::Items;
 use std::alloc::Global;
 
@@ -32,7 +32,7 @@ pub(crate) fn one(at: u32) -> RawExpr
 
 impl<'a> Reader<'a> {
     /// Whether a call comes next.
-    #[tactic(auto, unfolding(crate::specs::ReadSimple::begins_call))]
+    #[tactic(auto, unfolding(parse_laws::specs::ReadSimple::begins_call))]
     pub(crate) fn begins_call(&self) -> bool
         ensures { result ≡ spec.begins_call self.now }
     {
@@ -40,7 +40,7 @@ impl<'a> Reader<'a> {
     }
 
     /// Whether a name comes next to which the result of a call is assigned.
-    #[tactic(auto, using(crate::proofs::StmtTurns::next_symbol), unfolding(crate::specs::ReadSimple::begins_call_into))]
+    #[tactic(auto, using(parse_laws::proofs::StmtTurns::next_symbol), unfolding(parse_laws::specs::ReadSimple::begins_call_into))]
     pub(crate) fn begins_call_into(&self) -> bool
         ensures { result ≡ spec.begins_call_into self.now }
     {
@@ -48,7 +48,7 @@ impl<'a> Reader<'a> {
     }
 
     /// Expressions with commas between them. Each takes a token, so there are enough turns.
-    #[tactic(auto, using(crate::proofs::Lists::list_turns))]
+    #[tactic(auto, using(parse_laws::proofs::Lists::list_turns))]
     fn expressions(&mut self, room: usize) -> Result<Items<RawExpr>, Fault>
         requires { room < 999 }
         ensures { Reads (λ x. x) (phrases another (expr room 0) self.old) result self.new }
@@ -66,7 +66,7 @@ impl<'a> Reader<'a> {
     }
 
     /// The arguments of a call.
-    #[tactic(auto, unfolding(crate::specs::ReadSimple::arguments))]
+    #[tactic(auto, unfolding(parse_laws::specs::ReadSimple::arguments))]
     fn arguments(&mut self, room: usize) -> Result<Items<RawExpr>, Fault>
         requires { room < 999 }
         ensures { Reads (λ x. x) (spec.arguments room self.old) result self.new }
@@ -78,7 +78,7 @@ impl<'a> Reader<'a> {
     }
 
     /// A call whose result goes to `to`, with its semicolon.
-    #[tactic(auto, unfolding(crate::specs::ReadSimple::called))]
+    #[tactic(auto, unfolding(parse_laws::specs::ReadSimple::called))]
     pub(crate) fn called(&mut self, room: usize, to: RawTarget) -> Result<Items<RawStmt>, Fault>
         requires { room < 999 }
         ensures { Reads (λ x. x) (spec.called room to self.old) result self.new }
@@ -92,7 +92,7 @@ impl<'a> Reader<'a> {
     }
 
     /// A call whose result is assigned.
-    #[tactic(auto, unfolding(crate::specs::ReadSimple::call_into))]
+    #[tactic(auto, unfolding(parse_laws::specs::ReadSimple::call_into))]
     fn assigned_call(&mut self, room: usize) -> Result<Items<RawStmt>, Fault>
         requires { room < 999 }
         ensures { Reads (λ x. x) (spec.call_into room RawTarget.Assign self.old) result self.new }
@@ -103,7 +103,7 @@ impl<'a> Reader<'a> {
     }
 
     /// What is assigned to.
-    #[tactic(auto, using(crate::proofs::StmtTurns::part_turns))]
+    #[tactic(auto, using(parse_laws::proofs::StmtTurns::part_turns))]
     fn assigned(&mut self, room: usize) -> Result<RawPlace, Fault>
         requires { room < 999 }
         ensures { Reads (λ x. x) (spec.assigned room self.old) result self.new }
@@ -120,7 +120,7 @@ impl<'a> Reader<'a> {
     }
 
     /// The rest of an assignment to a place.
-    #[tactic(auto, using(crate::proofs::StmtTurns::next_symbol), unfolding(crate::specs::ReadSimple::assignment_to))]
+    #[tactic(auto, using(parse_laws::proofs::StmtTurns::next_symbol), unfolding(parse_laws::specs::ReadSimple::assignment_to))]
     fn assignment_to(&mut self, room: usize, place: RawPlace) -> Result<RawStmt, Fault>
         requires { room < 999 }
         ensures { Reads (λ x. x) (spec.assignment_to room place self.old) result self.new }
@@ -146,7 +146,7 @@ impl<'a> Reader<'a> {
     }
 
     /// `++` or `--`, and a place.
-    #[tactic(auto, unfolding(crate::specs::ReadSimple::stepped))]
+    #[tactic(auto, unfolding(parse_laws::specs::ReadSimple::stepped))]
     fn stepped(&mut self, room: usize, op: BinOp) -> Result<RawStmt, Fault>
         requires some { 0 < length self.old }
         requires few { room < 999 }
@@ -159,7 +159,7 @@ impl<'a> Reader<'a> {
     }
 
     /// An assignment, without its semicolon.
-    #[tactic(auto, using(crate::proofs::StmtTurns::next_symbol), unfolding(crate::specs::ReadSimple::assignment))]
+    #[tactic(auto, using(parse_laws::proofs::StmtTurns::next_symbol), unfolding(parse_laws::specs::ReadSimple::assignment))]
     pub(crate) fn assignment(&mut self, room: usize) -> Result<RawStmt, Fault>
         requires { room < 999 }
         ensures { Reads (λ x. x) (spec.assignment room self.old) result self.new }
@@ -174,7 +174,7 @@ impl<'a> Reader<'a> {
     }
 
     /// An assignment, with its semicolon.
-    #[tactic(auto, unfolding(crate::specs::ReadSimple::assign))]
+    #[tactic(auto, unfolding(parse_laws::specs::ReadSimple::assign))]
     pub(crate) fn assign(&mut self, room: usize) -> Result<Items<RawStmt>, Fault>
         requires { room < 999 }
         ensures { Reads (λ x. x) (spec.assign room self.old) result self.new }
@@ -185,7 +185,7 @@ impl<'a> Reader<'a> {
     }
 
     /// What begins with a name: a call or an assignment.
-    #[tactic(auto, unfolding(crate::specs::ReadSimple::named))]
+    #[tactic(auto, unfolding(parse_laws::specs::ReadSimple::named))]
     pub(crate) fn named(&mut self, room: usize) -> Result<Items<RawStmt>, Fault>
         requires { room < 999 }
         ensures { Reads (λ x. x) (spec.named room self.old) result self.new }
@@ -200,7 +200,7 @@ impl<'a> Reader<'a> {
     }
 
     /// The empty statement.
-    #[tactic(auto, unfolding(crate::specs::ReadSimple::empty))]
+    #[tactic(auto, unfolding(parse_laws::specs::ReadSimple::empty))]
     pub(crate) fn empty(&mut self) -> Result<Items<RawStmt>, Fault>
         ensures { Reads (λ x. x) (spec.empty self.old) result self.new }
     {
@@ -209,7 +209,7 @@ impl<'a> Reader<'a> {
     }
 
     /// A `break`, with its semicolon.
-    #[tactic(auto, unfolding(crate::specs::ReadSimple::broken))]
+    #[tactic(auto, unfolding(parse_laws::specs::ReadSimple::broken))]
     pub(crate) fn broken(&mut self) -> Result<Items<RawStmt>, Fault>
         ensures { Reads (λ x. x) (spec.broken self.old) result self.new }
     {
@@ -219,7 +219,7 @@ impl<'a> Reader<'a> {
     }
 
     /// A `continue`, with its semicolon.
-    #[tactic(auto, unfolding(crate::specs::ReadSimple::continued))]
+    #[tactic(auto, unfolding(parse_laws::specs::ReadSimple::continued))]
     pub(crate) fn continued(&mut self) -> Result<Items<RawStmt>, Fault>
         ensures { Reads (λ x. x) (spec.continued self.old) result self.new }
     {
@@ -229,7 +229,7 @@ impl<'a> Reader<'a> {
     }
 
     /// The expression of a `return`, if there is one.
-    #[tactic(auto, unfolding(crate::specs::ReadSimple::returned_value))]
+    #[tactic(auto, unfolding(parse_laws::specs::ReadSimple::returned_value))]
     fn returned_value(&mut self, room: usize) -> Result<Option<RawExpr>, Fault>
         requires { room < 999 }
         ensures { Reads (λ x. x) (spec.returned_value room self.old) result self.new }
@@ -242,7 +242,7 @@ impl<'a> Reader<'a> {
     }
 
     /// A `return`, with its semicolon.
-    #[tactic(auto, unfolding(crate::specs::ReadSimple::returned))]
+    #[tactic(auto, unfolding(parse_laws::specs::ReadSimple::returned))]
     pub(crate) fn returned(&mut self, room: usize) -> Result<Items<RawStmt>, Fault>
         requires { room < 999 }
         ensures { Reads (λ x. x) (spec.returned room self.old) result self.new }

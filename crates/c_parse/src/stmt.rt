@@ -2,14 +2,14 @@
 //! in `parse`; that it is asked to be less than 1,000 keeps the heights that are computed far from an overflow.
 
 ghost use Rattle.std.specs.Prelude.{◌≡◌, ◌<◌, [], Some, Ok};
-ghost use Rattle.c_parse.specs.ReadStmt as spec;
+ghost use Rattle.parse_laws.specs.ReadStmt as spec;
 ghost use Rattle.c_parse.specs.Reads.{Reads};
 ghost use Rattle.c_tree.specs.SpelledStatements.{Plain, Body, Item};
 
-use crate::fault::Fault;
 use crate::reader::Reader;
 use crate::simple::{one, only};
 use c_tree::{RawBound, RawExpr, RawShape, RawStmt, Symbol};
+use parse_laws::{Fault, ForHead};
 use sqlite_items::{Boxed, Items};
 use std::alloc::Global;
 
@@ -22,19 +22,18 @@ fn held(alloc: Global, stmt: RawStmt) -> Result<Option<Boxed<RawStmt>>, Fault>
 
 impl<'a> Reader<'a> {
     /// `( expression )`.
-    #[tactic(auto, unfolding(crate::specs::ReadStmt::condition))]
+    #[tactic(auto, unfolding(parse_laws::specs::ReadStmt::condition))]
     fn condition(&mut self, room: usize) -> Result<RawExpr, Fault>
         requires { room < 999 }
         ensures { Reads (λ x. x) (spec.condition room self.old) result self.new }
     {
         self.expect(Symbol::LeftParen)?;
-        let a = self.expr(room, 0)?;
-        self.expect(Symbol::RightParen)?;
+        let a = self.expr_before(room, Symbol::RightParen)?;
         Ok(a.expr)
     }
 
     /// The declaration that begins a `for`.
-    #[tactic(auto, unfolding(crate::specs::ReadStmt::for_declaration))]
+    #[tactic(auto, unfolding(parse_laws::specs::ReadStmt::for_declaration))]
     fn for_declaration(&mut self, room: usize) -> Result<RawStmt, Fault>
         requires { room < 999 }
         ensures { Reads (λ x. x) (spec.for_declaration room self.old) result self.new }
@@ -46,7 +45,7 @@ impl<'a> Reader<'a> {
         Ok(RawStmt::Declare(false, ty, spot, RawShape::Scalar(Some(a.expr))))
     }
 
-    #[tactic(auto, unfolding(crate::specs::ReadStmt::setup))]
+    #[tactic(auto, unfolding(parse_laws::specs::ReadStmt::setup))]
     fn setup(&mut self, room: usize) -> Result<RawStmt, Fault>
         requires { room < 999 }
         ensures { Reads (λ x. x) (spec.setup room self.old) result self.new }
@@ -59,7 +58,7 @@ impl<'a> Reader<'a> {
     }
 
     /// What a `for` begins with, if there is something.
-    #[tactic(auto, using(crate::proofs::StmtTurns::part_turns))]
+    #[tactic(auto, using(parse_laws::proofs::StmtTurns::part_turns))]
     fn initialiser(&mut self, room: usize) -> Result<Option<Boxed<RawStmt>>, Fault>
         requires { room < 999 }
         ensures { Reads (λ x. x) (spec.initialiser room self.old) result self.new }
@@ -75,7 +74,7 @@ impl<'a> Reader<'a> {
     }
 
     /// The condition of a `for`. A missing one is the number 1 at the place of the semicolon.
-    #[tactic(auto, using(crate::proofs::StmtTurns::part_turns, crate::proofs::Steps::seeing))]
+    #[tactic(auto, using(parse_laws::proofs::StmtTurns::part_turns, parse_laws::proofs::Steps::seeing))]
     fn test(&mut self, room: usize) -> Result<RawExpr, Fault>
         requires { room < 999 }
         ensures { Reads (λ x. x) (spec.test room self.old) result self.new }
@@ -91,7 +90,7 @@ impl<'a> Reader<'a> {
     }
 
     /// The step of a `for`, if there is one.
-    #[tactic(auto, using(crate::proofs::StmtTurns::part_turns))]
+    #[tactic(auto, using(parse_laws::proofs::StmtTurns::part_turns))]
     fn step(&mut self, room: usize) -> Result<Option<Boxed<RawStmt>>, Fault>
         requires { room < 999 }
         ensures { Reads (λ x. x) (spec.step room self.old) result self.new }
@@ -106,8 +105,36 @@ impl<'a> Reader<'a> {
         held(self.alloc(), stmt)
     }
 
+    /// What stands after the body of a `do`.
+    #[tactic(auto, unfolding(parse_laws::specs::ReadStmt::do_end))]
+    fn do_end(&mut self, room: usize) -> Result<RawExpr, Fault>
+        requires { room < 999 }
+        ensures { Reads (λ x. x) (spec.do_end room self.old) result self.new }
+    {
+        self.expect(Symbol::While)?;
+        let a = self.condition(room)?;
+        self.expect(Symbol::Semicolon)?;
+        Ok(a)
+    }
+
+    /// The head of a `for`.
+    #[tactic(auto, unfolding(parse_laws::specs::ReadStmt::for_head))]
+    fn for_head(&mut self, room: usize) -> Result<ForHead, Fault>
+        requires { room < 999 }
+        ensures { Reads (λ x. x) (spec.for_head room self.old) result self.new }
+    {
+        self.expect(Symbol::LeftParen)?;
+        let first = self.initialiser(room)?;
+        self.expect(Symbol::Semicolon)?;
+        let test = self.test(room)?;
+        self.expect(Symbol::Semicolon)?;
+        let last = self.step(room)?;
+        self.expect(Symbol::RightParen)?;
+        Ok(ForHead { first, test, last })
+    }
+
     /// The bound of a loop, if there is one.
-    #[tactic(auto, unfolding(crate::specs::ReadStmt::loop_bound))]
+    #[tactic(auto, unfolding(parse_laws::specs::ReadStmt::loop_bound))]
     fn optional_bound(&mut self) -> Result<Option<RawBound>, Fault>
         ensures { Reads (λ x. x) (spec.loop_bound self.old) result self.new }
     {
@@ -119,7 +146,7 @@ impl<'a> Reader<'a> {
     }
 
     /// The end of a compound statement.
-    #[tactic(auto, unfolding(crate::specs::ReadStmt::closed))]
+    #[tactic(auto, unfolding(parse_laws::specs::ReadStmt::closed))]
     fn closed(&mut self, list: Items<RawStmt>) -> Result<Items<RawStmt>, Fault>
         ensures { Reads (λ x. x) (spec.closed list self.old) result self.new }
     {
@@ -129,7 +156,7 @@ impl<'a> Reader<'a> {
 
     /// A statement that is neither a declaration nor a compound statement.
     #[cycle(code)]
-    #[tactic(auto, using(crate::proofs::StmtTurns::stmt_turns, crate::proofs::StmtTurns::next_symbol), unfolding(crate::specs::ReadStmt::plain))]
+    #[tactic(auto, using(parse_laws::proofs::StmtTurns::stmt_turns, parse_laws::proofs::StmtTurns::next_symbol), unfolding(parse_laws::specs::ReadStmt::plain))]
     fn plain(&mut self, room: usize) -> Result<Items<RawStmt>, Fault>
         requires { room < 1000 }
         ensures { Reads (λ x. x) (spec.statement room Plain self.old) result self.new }
@@ -154,7 +181,7 @@ impl<'a> Reader<'a> {
     }
 
     #[cycle(code)]
-    #[tactic(auto, unfolding(crate::specs::ReadStmt::choice))]
+    #[tactic(auto, unfolding(parse_laws::specs::ReadStmt::choice))]
     fn choice(&mut self, room: usize) -> Result<Items<RawStmt>, Fault>
         requires { room < 999 }
         ensures { Reads (λ x. x) (spec.choice room (spec.statement room Body) self.old) result self.new }
@@ -168,7 +195,7 @@ impl<'a> Reader<'a> {
 
     /// The side of an `if` after its `else`, if there is one.
     #[cycle(code)]
-    #[tactic(auto, unfolding(crate::specs::ReadStmt::other))]
+    #[tactic(auto, unfolding(parse_laws::specs::ReadStmt::other))]
     fn other(&mut self, room: usize) -> Result<Items<RawStmt>, Fault>
         requires { room < 999 }
         ensures { Reads (λ x. x) (spec.other room (spec.statement room Body) self.old) result self.new }
@@ -182,7 +209,7 @@ impl<'a> Reader<'a> {
 
     /// A loop, with its bound before it.
     #[cycle(code)]
-    #[tactic(auto, unfolding(crate::specs::ReadStmt::looped))]
+    #[tactic(auto, unfolding(parse_laws::specs::ReadStmt::looped))]
     fn looped(&mut self, room: usize) -> Result<Items<RawStmt>, Fault>
         requires { room < 999 }
         ensures { Reads (λ x. x) (spec.looped room (spec.statement room Body) self.old) result self.new }
@@ -197,7 +224,7 @@ impl<'a> Reader<'a> {
     }
 
     #[cycle(code)]
-    #[tactic(auto, unfolding(crate::specs::ReadStmt::while_loop))]
+    #[tactic(auto, unfolding(parse_laws::specs::ReadStmt::while_loop))]
     fn while_loop(&mut self, room: usize, bound: Option<RawBound>) -> Result<Items<RawStmt>, Fault>
         requires { room < 999 }
         ensures { Reads (λ x. x) (spec.while_loop room (spec.statement room Body) bound self.old) result self.new }
@@ -209,40 +236,35 @@ impl<'a> Reader<'a> {
     }
 
     #[cycle(code)]
-    #[tactic(auto, unfolding(crate::specs::ReadStmt::do_loop))]
+    #[tactic(auto, unfolding(parse_laws::specs::ReadStmt::do_loop))]
     fn do_loop(&mut self, room: usize, bound: Option<RawBound>) -> Result<Items<RawStmt>, Fault>
         requires { room < 999 }
         ensures { Reads (λ x. x) (spec.do_loop room (spec.statement room Body) bound self.old) result self.new }
     {
         let at = self.expect(Symbol::Do)?;
         let xs = self.body(room)?;
-        self.expect(Symbol::While)?;
-        let a = self.condition(room)?;
-        self.expect(Symbol::Semicolon)?;
+        let a = self.do_end(room)?;
         only(self.alloc(), RawStmt::Do(at, bound, xs, a))
     }
 
     #[cycle(code)]
-    #[tactic(auto, unfolding(crate::specs::ReadStmt::for_loop))]
+    #[tactic(auto, unfolding(parse_laws::specs::ReadStmt::for_loop))]
     fn for_loop(&mut self, room: usize, bound: Option<RawBound>) -> Result<Items<RawStmt>, Fault>
         requires { room < 999 }
         ensures { Reads (λ x. x) (spec.for_loop room (spec.statement room Body) bound self.old) result self.new }
     {
         let at = self.expect(Symbol::For)?;
-        self.expect(Symbol::LeftParen)?;
-        let first = self.initialiser(room)?;
-        self.expect(Symbol::Semicolon)?;
-        let a = self.test(room)?;
-        self.expect(Symbol::Semicolon)?;
-        let last = self.step(room)?;
-        self.expect(Symbol::RightParen)?;
+        let head = self.for_head(room)?;
         let xs = self.body(room)?;
-        only(self.alloc(), RawStmt::For(at, bound, first, a, last, xs))
+        only(
+            self.alloc(),
+            RawStmt::For(at, bound, head.first, head.test, head.last, xs),
+        )
     }
 
     /// A side of an `if`, or the body of a loop.
     #[cycle(code)]
-    #[tactic(auto, using(crate::proofs::StmtTurns::stmt_turns), unfolding(crate::specs::ReadStmt::as_body))]
+    #[tactic(auto, using(parse_laws::proofs::StmtTurns::stmt_turns), unfolding(parse_laws::specs::ReadStmt::as_body))]
     fn body(&mut self, room: usize) -> Result<Items<RawStmt>, Fault>
         requires { room < 1000 }
         ensures { Reads (λ x. x) (spec.statement room Body self.old) result self.new }
@@ -256,7 +278,7 @@ impl<'a> Reader<'a> {
 
     /// The list of a compound statement. Each statement takes a token, so there are enough turns.
     #[cycle(code)]
-    #[tactic(auto, using(crate::proofs::Until::until_turns, crate::proofs::StmtTurns::stmt_turns))]
+    #[tactic(auto, using(parse_laws::proofs::Until::until_turns, parse_laws::proofs::StmtTurns::stmt_turns))]
     pub(crate) fn block(&mut self, room: usize) -> Result<Items<RawStmt>, Fault>
         requires { room < 1000 }
         ensures { Reads (λ x. x) (spec.block (spec.statement room Item) self.old) result self.new }
@@ -275,7 +297,7 @@ impl<'a> Reader<'a> {
 
     /// A statement of a list.
     #[cycle(code)]
-    #[tactic(auto, using(crate::proofs::StmtTurns::stmt_turns), unfolding(crate::specs::ReadStmt::as_item))]
+    #[tactic(auto, using(parse_laws::proofs::StmtTurns::stmt_turns), unfolding(parse_laws::specs::ReadStmt::as_item))]
     fn item(&mut self, room: usize) -> Result<Items<RawStmt>, Fault>
         requires { room < 1000 }
         ensures { Reads (λ x. x) (spec.statement room Item self.old) result self.new }

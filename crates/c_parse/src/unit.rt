@@ -3,13 +3,13 @@
 //! than 1,000 keeps the heights that are computed far from an overflow.
 
 ghost use Rattle.std.specs.Prelude.{◌≡◌, ◌<◌, [], ◌∷◌, true, false, Some, None, Ok};
-ghost use Rattle.c_parse.specs.Parser.{another, phrases};
-ghost use Rattle.c_parse.specs.ReadUnit as spec;
+ghost use Rattle.parse_laws.specs.Parser.{another, phrases};
+ghost use Rattle.parse_laws.specs.ReadUnit as spec;
 ghost use Rattle.c_parse.specs.Reads.{Reads};
 
-use crate::fault::Fault;
 use crate::reader::Reader;
 use c_tree::{RawFunc, RawParam, RawTop, Symbol, Ty};
+use parse_laws::Fault;
 use sqlite_items::Items;
 use std::alloc::Global;
 
@@ -23,7 +23,7 @@ fn only(alloc: Global, function: RawFunc) -> Result<Items<RawTop>, Fault>
 }
 
 impl<'a> Reader<'a> {
-    #[tactic(auto, unfolding(crate::specs::ReadUnit::param))]
+    #[tactic(auto, unfolding(parse_laws::specs::ReadUnit::param))]
     fn param(&mut self) -> Result<RawParam, Fault>
         ensures { Reads (λ x. x) (spec.param self.old) result self.new }
     {
@@ -33,7 +33,7 @@ impl<'a> Reader<'a> {
     }
 
     /// Parameters with commas between them. Each takes a token, so there are enough turns.
-    #[tactic(auto, using(crate::proofs::Lists::list_turns))]
+    #[tactic(auto, using(parse_laws::proofs::Lists::list_turns))]
     fn param_list(&mut self) -> Result<Items<RawParam>, Fault>
         ensures { Reads (λ x. x) (phrases another spec.param self.old) result self.new }
     {
@@ -49,7 +49,7 @@ impl<'a> Reader<'a> {
         Err(self.refuse())
     }
 
-    #[tactic(auto, unfolding(crate::specs::ReadUnit::params))]
+    #[tactic(auto, unfolding(parse_laws::specs::ReadUnit::params))]
     fn params(&mut self) -> Result<Items<RawParam>, Fault>
         ensures { Reads (λ x. x) (spec.params self.old) result self.new }
     {
@@ -64,7 +64,7 @@ impl<'a> Reader<'a> {
     }
 
     /// An extern variable, which may be an array.
-    #[tactic(auto, unfolding(crate::specs::ReadUnit::outer_declarator))]
+    #[tactic(auto, unfolding(parse_laws::specs::ReadUnit::outer_declarator))]
     fn outer_declarator(&mut self, room: usize, constant: bool, ty: Ty) -> Result<RawTop, Fault>
         requires { room < 999 }
         ensures { Reads (λ x. x) (spec.outer_declarator room constant ty self.old) result self.new }
@@ -77,7 +77,7 @@ impl<'a> Reader<'a> {
         Ok(RawTop::Outer(constant, ty, spot, Some(size.expr)))
     }
 
-    #[tactic(auto, using(crate::proofs::Lists::list_turns))]
+    #[tactic(auto, using(parse_laws::proofs::Lists::list_turns))]
     fn outer_list(&mut self, room: usize, constant: bool, ty: Ty) -> Result<Items<RawTop>, Fault>
         requires { room < 999 }
         ensures { Reads (λ x. x) (phrases another (spec.outer_declarator room constant ty) self.old) result self.new }
@@ -94,7 +94,7 @@ impl<'a> Reader<'a> {
         Err(self.refuse())
     }
 
-    #[tactic(auto, unfolding(crate::specs::ReadUnit::outers))]
+    #[tactic(auto, unfolding(parse_laws::specs::ReadUnit::outers))]
     fn outers(&mut self, room: usize) -> Result<Items<RawTop>, Fault>
         requires { room < 999 }
         ensures { Reads (λ x. x) (spec.outers room self.old) result self.new }
@@ -108,7 +108,7 @@ impl<'a> Reader<'a> {
     }
 
     /// A declarator of a variable.
-    #[tactic(auto, unfolding(crate::specs::ReadUnit::global, crate::specs::ReadDecl::declarator))]
+    #[tactic(auto, unfolding(parse_laws::specs::ReadUnit::global, parse_laws::specs::ReadDecl::declarator))]
     fn global(&mut self, room: usize, kept: bool, constant: bool, ty: Ty) -> Result<RawTop, Fault>
         requires { room < 999 }
         ensures { Reads (λ x. x) (spec.global room kept constant ty self.old) result self.new }
@@ -118,7 +118,7 @@ impl<'a> Reader<'a> {
         Ok(RawTop::Global(kept, constant, ty, spot, shape))
     }
 
-    #[tactic(auto, using(crate::proofs::Lists::list_turns))]
+    #[tactic(auto, using(parse_laws::proofs::Lists::list_turns))]
     fn global_list(
         &mut self,
         room: usize,
@@ -141,7 +141,7 @@ impl<'a> Reader<'a> {
         Err(self.refuse())
     }
 
-    #[tactic(auto, unfolding(crate::specs::ReadUnit::globals))]
+    #[tactic(auto, unfolding(parse_laws::specs::ReadUnit::globals))]
     fn globals(
         &mut self,
         room: usize,
@@ -158,7 +158,7 @@ impl<'a> Reader<'a> {
     }
 
     /// A function from its name on.
-    #[tactic(auto, unfolding(crate::specs::ReadUnit::function))]
+    #[tactic(auto, unfolding(parse_laws::specs::ReadUnit::function))]
     fn function(
         &mut self,
         room: usize,
@@ -184,7 +184,7 @@ impl<'a> Reader<'a> {
     }
 
     /// Variables, or a function that gives a value.
-    #[tactic(auto, unfolding(crate::specs::ReadUnit::variables_or_function))]
+    #[tactic(auto, unfolding(parse_laws::specs::ReadUnit::variables_or_function))]
     fn variables_or_function(&mut self, room: usize, kept: bool) -> Result<Items<RawTop>, Fault>
         requires { room < 999 }
         ensures { Reads (λ x. x) (spec.variables_or_function room kept self.old) result self.new }
@@ -198,7 +198,7 @@ impl<'a> Reader<'a> {
     }
 
     /// What may stand after `static`.
-    #[tactic(auto, unfolding(crate::specs::ReadUnit::after_static))]
+    #[tactic(auto, unfolding(parse_laws::specs::ReadUnit::after_static))]
     fn after_static(&mut self, room: usize, kept: bool) -> Result<Items<RawTop>, Fault>
         requires { room < 999 }
         ensures { Reads (λ x. x) (spec.after_static room kept self.old) result self.new }
@@ -216,7 +216,7 @@ impl<'a> Reader<'a> {
     }
 
     /// A declaration or a function.
-    #[tactic(auto, unfolding(crate::specs::ReadUnit::top_of))]
+    #[tactic(auto, unfolding(parse_laws::specs::ReadUnit::top_of))]
     fn top_of(&mut self, room: usize) -> Result<Items<RawTop>, Fault>
         requires { room < 999 }
         ensures { Reads (λ x. x) (spec.top_of room self.old) result self.new }
@@ -229,7 +229,7 @@ impl<'a> Reader<'a> {
     }
 
     /// Whether no token is left.
-    #[tactic(auto, using(crate::proofs::Until::ends))]
+    #[tactic(auto, using(parse_laws::proofs::Until::ends))]
     fn is_end(&self) -> bool
         ensures { result ≡ spec.is_end self.now }
     {
@@ -239,7 +239,7 @@ impl<'a> Reader<'a> {
         }
     }
 
-    #[tactic(auto, unfolding(crate::specs::ReadUnit::finished))]
+    #[tactic(auto, unfolding(parse_laws::specs::ReadUnit::finished))]
     fn finished(&mut self, list: Items<RawTop>) -> Result<Items<RawTop>, Fault>
         ensures { Reads (λ x. x) (spec.finished list self.old) result self.new }
     {
@@ -250,7 +250,7 @@ impl<'a> Reader<'a> {
     }
 
     /// All tokens. What is declared takes a token, so there are enough turns.
-    #[tactic(auto, using(crate::proofs::Until::until_turns))]
+    #[tactic(auto, using(parse_laws::proofs::Until::until_turns))]
     pub(crate) fn whole(&mut self, room: usize) -> Result<Items<RawTop>, Fault>
         requires { room < 999 }
         ensures { Reads (λ x. x) (spec.whole room self.old) result self.new }

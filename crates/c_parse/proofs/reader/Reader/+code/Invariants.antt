@@ -1,6 +1,6 @@
 use Rattle.std.proofs.Common.{◌≡◌, ◌-◌, ◌+◌, ◌*◌}
-use Rattle.c_parse.specs.Parser.{sees}
-use Rattle.c_parse.specs.ReadStmt as spec
+use Rattle.parse_laws.specs.Parser.{sees}
+use Rattle.parse_laws.specs.ReadStmt as spec
 use Rattle.c_tree.specs.declared.symbol.Symbol.TheVariants as s
 use Rattle.c_tree.specs.SpelledStatements.{Item}
 use Rattle.c_parse.proofs.reader.Reader.+code.Given as goal

@@ -1,8 +1,8 @@
 use Rattle.std.proofs.Common.{◌≡◌, true, arith}
 use Rattle.std.proofs.lemmas.Result.{err_from_is_err_and}
-use Rattle.c_parse.specs.declared.symbol.Next.TheVariants.{By}
-use Rattle.c_parse.specs.Going.{next, binds}
-use Rattle.c_parse.proofs.Turns.{climb-stops, climb-turn}
+use Rattle.parse_laws.specs.declared.going.Next.TheVariants.{By}
+use Rattle.parse_laws.specs.Going.{next, binds}
+use Rattle.parse_laws.proofs.Turns.{climb-stops, climb-turn}
 use Rattle.c_parse.proofs.reader.Reader.+expr.Goals as goal
 
 pub climb-loop-turn-preserved : goal.climb-loop-turn-preserved

@@ -1,5 +1,5 @@
 use Rattle.std.proofs.Common.{◌≡◌, ◌-◌, ◌≤◌, ◌+◌, ◌*◌}
-use Rattle.c_parse.specs.ReadExpr as spec
+use Rattle.parse_laws.specs.ReadExpr as spec
 use Rattle.c_parse.proofs.reader.Reader.+expr.Given as goal
 
 abbrev pub decreases-expr : goal.decreases-expr
@@ -12,28 +12,34 @@ abbrev pub decreases-operation : goal.decreases-operation
 decreases-operation l = 8 * l.room + 1
 
 abbrev pub decreases-conditional : goal.decreases-conditional
-decreases-conditional l = 8 * l.room + 1
+decreases-conditional l = 8 * l.room + 3
+
+abbrev pub decreases-choices : goal.decreases-choices
+decreases-choices l = 8 * l.room + 2
+
+abbrev pub decreases-expr_before : goal.decreases-expr_before
+decreases-expr_before l = 8 * l.room + 1
 
 abbrev pub decreases-unary : goal.decreases-unary
 decreases-unary l = 8 * l.room + 1
 
 abbrev pub decreases-index : goal.decreases-index
-decreases-index l = 8 * l.room + 1
+decreases-index l = 8 * l.room + 2
 
 abbrev pub decreases-cast : goal.decreases-cast
 decreases-cast l = 8 * l.room + 1
 
 abbrev pub decreases-paren : goal.decreases-paren
-decreases-paren l = 8 * l.room + 1
+decreases-paren l = 8 * l.room + 2
 
 abbrev pub decreases-variable : goal.decreases-variable
-decreases-variable l = 8 * l.room + 2
+decreases-variable l = 8 * l.room + 3
 
 abbrev pub decreases-parenthesised : goal.decreases-parenthesised
-decreases-parenthesised l = 8 * l.room + 2
+decreases-parenthesised l = 8 * l.room + 3
 
 abbrev pub decreases-operand : goal.decreases-operand
-decreases-operand l = 8 * l.room + 3
+decreases-operand l = 8 * l.room + 4
 
 abbrev pub invariant-climb-loop-turn : goal.invariant-climb-loop-turn
 invariant-climb-loop-turn l = record {

@@ -1,8 +1,8 @@
 use Rattle.std.proofs.Common.{ap, sym, ◌∙◌}
 use Rattle.c_tree.specs.Symbols.{Lexeme, lexeme}
-use Rattle.c_parse.specs.Lexeme.{constant}
+use Rattle.parse_laws.specs.Lexeme.{constant}
 use Rattle.c_parse.proofs.Tokens.{head-lexemes}
-use Rattle.c_parse.proofs.Steps.{head-is}
+use Rattle.parse_laws.proofs.Steps.{head-is}
 use Rattle.c_parse.proofs.reader.Reader.constant.Goals as goal
 
 pub returns-clause-value : goal.returns-clause-value

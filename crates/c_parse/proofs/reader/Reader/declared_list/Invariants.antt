@@ -1,6 +1,6 @@
 use Rattle.std.proofs.Common.{◌≡◌, ◌-◌}
-use Rattle.c_parse.specs.Parser.{another, phrases, separated_on}
-use Rattle.c_parse.specs.ReadDecl.{declared}
+use Rattle.parse_laws.specs.Parser.{another, phrases, separated_on}
+use Rattle.parse_laws.specs.ReadDecl.{declared}
 use Rattle.c_parse.proofs.reader.Reader.declared_list.Given as goal
 
 abbrev pub invariant-loop-turn : goal.invariant-loop-turn

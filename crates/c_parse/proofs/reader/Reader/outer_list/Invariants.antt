@@ -1,6 +1,6 @@
 use Rattle.std.proofs.Common.{◌≡◌, ◌-◌}
-use Rattle.c_parse.specs.Parser.{another, phrases, separated_on}
-use Rattle.c_parse.specs.ReadUnit.{outer_declarator}
+use Rattle.parse_laws.specs.Parser.{another, phrases, separated_on}
+use Rattle.parse_laws.specs.ReadUnit.{outer_declarator}
 use Rattle.c_parse.proofs.reader.Reader.outer_list.Given as goal
 
 abbrev pub invariant-loop-turn : goal.invariant-loop-turn

@@ -1,6 +1,6 @@
 use Rattle.std.proofs.Common.{◌≡◌, ◌-◌}
-use Rattle.c_parse.specs.ReadStmt.{until_on}
-use Rattle.c_parse.specs.ReadUnit.{top_of, is_end, finished, whole}
+use Rattle.parse_laws.specs.ReadStmt.{until_on}
+use Rattle.parse_laws.specs.ReadUnit.{top_of, is_end, finished, whole}
 use Rattle.c_parse.proofs.reader.Reader.whole.Given as goal
 
 abbrev pub invariant-loop-turn : goal.invariant-loop-turn

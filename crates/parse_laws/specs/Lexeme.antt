@@ -1,0 +1,13 @@
+-- A token as a number.
+use Rattle.c_tree.specs.declared.unit.RawBound.{RawBound}
+use Rattle.c_tree.specs.declared.unit.RawExpr.{RawExpr}
+use Rattle.c_tree.specs.declared.unit.RawExpr.TheVariants as e
+use Rattle.c_tree.specs.Symbols.{Lexeme}
+
+-- a token as an integer constant
+abbrev pub constant : Lexeme → RawExpr
+constant t = e.Num t.at t.ty t.value
+
+-- and as the bound of a loop
+abbrev pub loop_bound : Lexeme → RawBound
+loop_bound t = record { at = t.at; value = t.value }

@@ -1,0 +1,10 @@
+pub mod Same
+pub mod Lexeme
+pub mod Parser
+pub mod Going
+pub mod ReadExpr
+pub mod ReadSimple
+pub mod ReadDecl
+pub mod ReadStmt
+pub mod ReadUnit
+pub mod Trees
