@@ -1,5 +1,5 @@
 -- Weak duality without a box.
-use Rattle.std.proofs.Common.{◌≡◌, ℕ, zero, suc, ◌+◌, ◌≤◌, List, [], ◌∷◌, length, map, ℤ, pos, negsuc, ◌+ℤ◌, ◌*ℤ◌, ◌≤ℤ◌, arith, ap, sym, refl, ◌∙◌, subst, All}
+use Rattle.std.proofs.Common.{◌≡◌, ℕ, zero, suc, ◌+◌, ◌≤◌, List, [], ◌∷◌, map, ℤ, pos, negsuc, ◌+ℤ◌, ◌*ℤ◌, ◌≤ℤ◌, arith, ap, refl, ◌∙◌, subst, All}
 use Rattle.std.specs.Int.{int_div_euclid}
 use Rattle.std.specs.List.{AllZip}
 use Rattle.std.proofs.lemmas.Int.{ints}
@@ -10,9 +10,8 @@ use Rattle.lin_rows.specs.Steps.{total}
 use Rattle.lin_rows.specs.Vectors.{cost}
 use Rattle.lin_rows.specs.declared.count_box.CountBox.{CountBox}
 use Rattle.lin_rows.specs.declared.multipliers.Multipliers.{Multipliers}
-use Rattle.lin_rows.specs.declared.objective.Objective.{Objective}
 use Rattle.lin_rows.specs.declared.row.Rows.{Rows}
-use Rattle.bound_cert.specs.Dual.{weighted_rights, reduced_cost, reduced_costs, best_limit, edge_bound, edge_bounds, dual_of_rows}
+use Rattle.bound_cert.specs.Dual.{weighted_rights, reduced_cost, reduced_costs, best_limit, edge_bounds}
 use Rattle.bound_cert.specs.Law.{BeginsAtZero, HaveEntries, DualOfCovered, WeakDualityWithoutBox}
 use Rattle.bound_cert.proofs.Duality.{weak_duality_lem}
 
