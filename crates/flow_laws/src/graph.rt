@@ -24,7 +24,8 @@ pub struct Edge {
 
 /// A node. `block` is the block that it is a copy of; Entry, Exit and landings have none. `chain` has the call blocks
 /// in whose callees' copies it stands, outermost first. `cap` is its scale with calls inlined, which for Entry, Exit
-/// and landings is that of their place; no driven path leaves the node more often.
+/// and landings is that of their place; no list that is contiguous from Entry and keeps the bounds of loops leaves it more
+/// often.
 #[derive(Drop)]
 pub struct Node {
     pub block: Option<BlockName>,
