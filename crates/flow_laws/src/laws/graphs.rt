@@ -153,9 +153,7 @@ pub fn filter()
     ensures all_left { turns_left (loop 4 (2 ∷ []) 3) to_the_loop ≡ Some 4 }
     ensures three_left { turns_left (loop 4 (2 ∷ []) 3) (to_the_loop ++ low_turn) ≡ Some 3 }
     ensures no_more { turns_left (loop 4 (2 ∷ []) 3) four_low_turns ≡ Some 0 }
-    ensures fourth {
-        each_allows (loops (graph clamp_filter)) (to_the_loop ++ (low_turn ++ (low_turn ++ low_turn))) 3 ≡ true
-    }
+    ensures fourth { each_allows (loops (graph clamp_filter)) (to_the_loop ++ (low_turn ++ (low_turn ++ low_turn))) 3 ≡ true }
     ensures fifth { each_allows (loops (graph clamp_filter)) four_low_turns 3 ≡ false }
     ensures leaves { each_allows (loops (graph clamp_filter)) four_low_turns 4 ≡ true }
     ensures enters_again { allows (loop 4 (2 ∷ []) 3) 2 (Some 0) ≡ true }
