@@ -17,7 +17,8 @@ ghost use Rattle.flow_laws.specs.Paths.{allows, each_allows};
 ghost use Rattle.flow_laws.specs.Driving.{drives};
 ghost use Rattle.flow_laws.specs.Claims.{IsDrivenList};
 ghost use Rattle.flow_laws.specs.WorkedGraphs.{next, when, unless, loop, do_loop, blocks_of, chains_of, caps_of};
-ghost use Rattle.flow_laws.specs.WorkedGraphs.{calls_of, loop_copy, to_the_loop, low_turn, four_low_turns};
+ghost use Rattle.flow_laws.specs.WorkedGraphs.{calls_of, loop_copy, to_the_loop, low_turn};
+ghost use Rattle.flow_laws.specs.WorkedGraphs.{three_low_turns, four_low_turns};
 ghost use Rattle.flow_laws.specs.BlockLists.{blocks_of_func, Run, Asks, Gives, Calls};
 ghost use Rattle.flow_laws.specs.WorkedGraphs.{empty_main, groups_and_rest, empty_for, empty_while, empty_do};
 ghost use Rattle.flow_laws.specs.WorkedGraphs.{nested_do};
@@ -153,7 +154,7 @@ pub fn filter()
     ensures all_left { turns_left (loop 4 (2 ∷ []) 3) to_the_loop ≡ Some 4 }
     ensures three_left { turns_left (loop 4 (2 ∷ []) 3) (to_the_loop ++ low_turn) ≡ Some 3 }
     ensures no_more { turns_left (loop 4 (2 ∷ []) 3) four_low_turns ≡ Some 0 }
-    ensures fourth { each_allows (loops (graph clamp_filter)) (to_the_loop ++ (low_turn ++ (low_turn ++ low_turn))) 3 ≡ true }
+    ensures fourth { each_allows (loops (graph clamp_filter)) three_low_turns 3 ≡ true }
     ensures fifth { each_allows (loops (graph clamp_filter)) four_low_turns 3 ≡ false }
     ensures leaves { each_allows (loops (graph clamp_filter)) four_low_turns 4 ≡ true }
     ensures enters_again { allows (loop 4 (2 ∷ []) 3) 2 (Some 0) ≡ true }
