@@ -1,4 +1,5 @@
--- A path that keeps the bounds of loops, driven or not, leaves each node at most as often as its cap.
+-- A list that is contiguous from Entry and keeps the bounds of loops, driven or not, leaves each node at most as often as
+-- its cap.
 use Rattle.std.proofs.Common.{◌≡◌, ◌≢◌, ℕ, zero, suc, ◌+◌, ◌≤◌, true, List, [], ◌∷◌, Option, Some, None, refl, sym, ap, ◌∙◌, subst, arith}
 use Rattle.std.specs.Prelude.{slice_get}
 use Rattle.c_tree.specs.declared.program.Program.{Program}
@@ -7,7 +8,7 @@ use Rattle.flow_laws.specs.declared.graph.Way.{Way}
 use Rattle.flow_laws.specs.declared.graph.Edge.{Edge}
 use Rattle.flow_laws.specs.Sites.{Content, Entry, Exit, Simple, Test, Jump, Give, Enter, Missing, Land, Site, Copy, head, one}
 use Rattle.flow_laws.specs.Graphs.{outermost, copies, sites_of, graph, edges, loops, loop_copies, loop_of, enters}
-use Rattle.flow_laws.specs.Paths.{IsPath, count, cap_of, Keeps, KeepsEach}
+use Rattle.flow_laws.specs.Paths.{led, follows, IsPath, count, cap_of, Keeps, KeepsEach}
 use Rattle.flow_laws.specs.Driving.{Memory, memory}
 use Rattle.flow_laws.proofs.Counting.{Counters, State, at, hit, visits, turns, limit, target}
 use Rattle.flow_laws.proofs.Fair.{program_fair}
@@ -23,6 +24,7 @@ use Rattle.flow_laws.proofs.Caps.{most_is}
 use Rattle.flow_laws.proofs.Copies.{onces}
 use Rattle.flow_laws.proofs.Conserved.{edges_of, Chained}
 use Rattle.flow_laws.proofs.Leaving.{WayFits, way_fits}
+use Rattle.flow_laws.proofs.LoopLaws.{end_of}
 use Rattle.flow_laws.proofs.Roaming.{Fits, Roams, IsBounded, bounded_more, one_bounded, fresh_step}
 use Rattle.flow_laws.proofs.Capped.{CopyCapped, copies_capped}
 
@@ -97,12 +99,18 @@ graph_bounded p x a h e =
 nowhere : Memory
 nowhere = memory (record { locals = []; globals = [] }) [] None
 
-pub kept_capped : (p : Program) (q : List ℕ) → WellFormed p → IsPath (edges (graph p)) q → KeepsEach (loops (graph p)) q → (j : ℕ) (e : Edge) → slice_get (edges (graph p)) j ≡ Some e → count q j ≤ cap_of (slice_get (graph p) e.from)
-kept_capped p q formed path keeps j e is =
+pub list_capped : (p : Program) (q : List ℕ) (m : ℕ) → WellFormed p → led (edges (graph p)) 0 q ≡ Some m → KeepsEach (loops (graph p)) q → (j : ℕ) (e : Edge) → slice_get (edges (graph p)) j ≡ Some e → count q j ≤ cap_of (slice_get (graph p) e.from)
+list_capped p q m formed leads keeps j e is =
     let g = graph p in
-    let r = edges_of (edges g) q 0 1 path in
+    let r = edges_of (edges g) q 0 m leads in
     let each = from_list (λ m. Keeps (loop_of g m) q) g (each_to_all g (loop_copies g) q keeps) in
     let all : AllCount g (λ l. None) r.list = λ n l c at_n. keeps_counter (enters l) (turns l) (limit l) r.list (edges_keep g n l c q r.list at_n r.names (each n at_n.node l c at_n.has at_n.content)) in
-    let walk = chain_roams g q r.list 0 1 nowhere (λ l. None) (graph_turned p) r.names r.chained all in
+    let walk = chain_roams g q r.list 0 m nowhere (λ l. None) (graph_turned p) r.names r.chained all in
     let visited = graph_bounded p e.from (at 0 nowhere (λ l. None)) formed refl r.list walk.last walk.roams in
     omega (arith, count_visits g j e is q r.list r.names, visited, most_is p e.from)
+
+pub kept_capped : (p : Program) (q : List ℕ) → WellFormed p → IsPath (edges (graph p)) q → KeepsEach (loops (graph p)) q → (j : ℕ) (e : Edge) → slice_get (edges (graph p)) j ≡ Some e → count q j ≤ cap_of (slice_get (graph p) e.from)
+kept_capped p q formed path = list_capped p q 1 formed path
+
+pub contiguous_capped : (p : Program) (q : List ℕ) → WellFormed p → follows (edges (graph p)) q ≡ true → KeepsEach (loops (graph p)) q → (j : ℕ) (e : Edge) → slice_get (edges (graph p)) j ≡ Some e → count q j ≤ cap_of (slice_get (graph p) e.from)
+contiguous_capped p q formed h = let end = end_of (led (edges (graph p)) 0 q) h in list_capped p q end.0 formed end.1

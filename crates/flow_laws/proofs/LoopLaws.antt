@@ -1,6 +1,6 @@
--- What is told of the loops of a graph, and that a path which keeps their bounds turns them no more than it enters them allows.
-use Rattle.std.proofs.Common.{◌≡◌, ◌⊎◌, inl, inr, ℕ, zero, suc, ◌+◌, ◌*◌, ◌<◌, ◌≤◌, Bool, true, false, if◌then◌else◌, List, [], ◌∷◌, Some, None, refl, sym, ap, ◌∙◌, subst, arith}
-use Rattle.std.specs.Prelude.{slice_get, ◌==◌, ◌&&◌}
+-- What is told of the loops of a graph, and that a path which keeps their bounds turns them no more than that allows.
+use Rattle.std.proofs.Common.{◌≡◌, ◌⊎◌, inl, inr, ℕ, zero, suc, ◌+◌, ◌*◌, ◌<◌, ◌≤◌, Bool, true, false, if◌then◌else◌, List, [], ◌∷◌, Option, Some, None, refl, sym, ap, ◌∙◌, subst, arith}
+use Rattle.std.specs.Prelude.{slice_get, is_some, ◌==◌, ◌&&◌}
 use Rattle.std.proofs.lemmas.Bool.Decides.{nat_tests}
 use Rattle.std.proofs.lemmas.Bool.{eqb-true}
 use Rattle.c_tree.specs.declared.tree.Expr.{Expr}
@@ -12,7 +12,7 @@ use Rattle.flow_laws.specs.declared.graph.Loop.{Loop}
 use Rattle.flow_laws.specs.Sites.{LoopCopy, Test, Site}
 use Rattle.flow_laws.specs.Graphs.{graph, edges, first_out, enters, is_in, loop_copies, loop_of, loops}
 use Rattle.flow_laws.specs.Loops.{AreNested}
-use Rattle.flow_laws.specs.Paths.{IsPath, times, count, total, most_turns, Keeps, KeepsEach, after_turn, keeps_from}
+use Rattle.flow_laws.specs.Paths.{led, follows, IsPath, times, count, total, most_turns, Keeps, KeepsEach, after_turn, keeps_from}
 use Rattle.flow_laws.proofs.Counting.{target, limit, turns, is_true_end}
 use Rattle.flow_laws.proofs.Steps.{enters_from}
 use Rattle.flow_laws.proofs.Keeps.{keeps_counter}
@@ -166,21 +166,32 @@ enters_first p l is (j ∷ js) (e ∷ q) n m names chained out h =
     by_edge false true ee te next k = absurd (no_turn l e is.node is.is.turned from te)
     by_edge false false ee te next k = next ee k
 
-kept_row : (p : Program) (js : List ℕ) (r : EdgesOf (edges (graph p)) js 0 1) → KeepsEach (loops (graph p)) js → (n : ℕ) (l : LoopCopy) (c : Expr) → IsLoopAt (graph p) n l c → IsTurnedWithin js (loop_of (graph p) l)
-kept_row p js r keeps n l c is =
+kept_row : (p : Program) (js : List ℕ) (m : ℕ) (r : EdgesOf (edges (graph p)) js 0 m) → KeepsEach (loops (graph p)) js → (n : ℕ) (l : LoopCopy) (c : Expr) → IsLoopAt (graph p) n l c → IsTurnedWithin js (loop_of (graph p) l)
+kept_row p js m r keeps n l c is =
     let g = graph p in
     let at_l : LoopIn g l = record { node = n; test = c; is = is } in
     let each = from_list (λ m. Keeps (loop_of g m) js) g (each_to_all g (loop_copies g) js keeps) in
     let by = edges_keep g n l c js r.list is r.names (each n is.node l c is.has is.content) in
     let low = behind_entry p l at_l in
-    let first = enters_first p l at_l js r.list 0 1 r.names r.chained (inl (omega (arith, low))) (keeps_counter (enters l) (turns l) (limit l) r.list by) in
+    let first = enters_first p l at_l js r.list 0 m r.names r.chained (inl (omega (arith, low))) (keeps_counter (enters l) (turns l) (limit l) r.list by) in
     let under : times (turns l) r.list ≤ limit l * times (enters l) r.list = (let u = turns_under n l r.list 0 is.turned first in omega (arith, u)) in
     let turned = times_names (edges g) (λ j. j == first_out g l.test) (turns l) (turn_is g n l c is) js r.list r.names in
     let entered = total_positions js (enters l) 0 (edges g) ∙ total_names (enters l) (edges g) js r.list r.names in
     subst (λ y. count js (first_out g l.test) ≤ limit l * y) (sym entered) (subst (λ y. y ≤ limit l * times (enters l) r.list) (sym turned) under)
 
-pub kept_rows : (p : Program) (q : List ℕ) → IsPath (edges (graph p)) q → KeepsEach (loops (graph p)) q → (k : ℕ) (l : Loop) → slice_get (loops (graph p)) k ≡ Some l → count q l.turn ≤ most_turns l * total q l.into
-kept_rows p q path keeps k l e =
+pub list_rows : (p : Program) (q : List ℕ) (m : ℕ) → led (edges (graph p)) 0 q ≡ Some m → KeepsEach (loops (graph p)) q → (k : ℕ) (l : Loop) → slice_get (loops (graph p)) k ≡ Some l → count q l.turn ≤ most_turns l * total q l.into
+list_rows p q m leads keeps k l e =
     let g = graph p in
-    let r = edges_of (edges g) q 0 1 path in
-    each_is_of g q (loop_copies g) (to_list (λ l. IsTurnedWithin q (loop_of g l)) g (λ n s l c has is. kept_row p q r keeps n l c (loop_at_node g n s l c (graph_turned p) has is))) k l e
+    let r = edges_of (edges g) q 0 m leads in
+    each_is_of g q (loop_copies g) (to_list (λ l. IsTurnedWithin q (loop_of g l)) g (λ n s l c has is. kept_row p q m r keeps n l c (loop_at_node g n s l c (graph_turned p) has is))) k l e
+
+pub kept_rows : (p : Program) (q : List ℕ) → IsPath (edges (graph p)) q → KeepsEach (loops (graph p)) q → (k : ℕ) (l : Loop) → slice_get (loops (graph p)) k ≡ Some l → count q l.turn ≤ most_turns l * total q l.into
+kept_rows p q path = list_rows p q 1 path
+
+-- where a contiguous list leads
+pub end_of : (o : Option ℕ) → is_some o ≡ true → (m : ℕ) × (o ≡ Some m)
+end_of None h = absurd (cc)
+end_of (Some m) h = (m, refl)
+
+pub contiguous_rows : (p : Program) (q : List ℕ) → follows (edges (graph p)) q ≡ true → KeepsEach (loops (graph p)) q → (k : ℕ) (l : Loop) → slice_get (loops (graph p)) k ≡ Some l → count q l.turn ≤ most_turns l * total q l.into
+contiguous_rows p q h = let end = end_of (led (edges (graph p)) 0 q) h in list_rows p q end.0 end.1

@@ -1,4 +1,4 @@
--- Loops are nested: of two one lies in the other or they are apart, and an edge from outside leads to the first node at most.
+-- Loops are nested: of two one lies in the other or they are apart, and an edge from outside leads to the first node.
 use Rattle.std.proofs.Common.{◌≡◌, ◌⊎◌, inl, inr, ℕ, zero, suc, ◌+◌, ◌<◌, ◌≤◌, Bool, true, false, if◌then◌else◌, List, [], ◌∷◌, ◌++◌, length, Option, Some, None, refl, sym, subst, arith, length-append}
 use Rattle.std.specs.Prelude.{slice_get}
 use Rattle.c_tree.specs.declared.tree.Expr.{Expr}

@@ -7,7 +7,7 @@ use Rattle.flow_laws.specs.Graphs.{graph, edges, loop_copies, loops}
 use Rattle.flow_laws.specs.Paths.{leaving, arriving, count, turns_left, allows, each_allows}
 use Rattle.flow_laws.specs.Driving.{drives}
 use Rattle.flow_laws.specs.Claims.{IsDrivenList}
-use Rattle.flow_laws.specs.WorkedGraphs.{nested_do, loop_copy, next, when, unless, loop, caps_of, calls_of, to_the_loop, low_turn, four_low_turns}
+use Rattle.flow_laws.specs.WorkedGraphs.{nested_do, loop_copy, next, when, unless, loop, caps_of, calls_of, to_the_loop, low_turn, three_low_turns, four_low_turns}
 use Rattle.flow_laws.proofs.Computed.{same_driving}
 use Rattle.c_tree.specs.declared.tree.Target.TheVariants as target
 use Rattle.c_tree.specs.declared.tree.BinOp.TheVariants as bin
@@ -64,7 +64,7 @@ pub filter-no_more : turns_left (loop 4 (2 ∷ []) 3) four_low_turns ≡ Some 0
 unfolding two_thresholds clamp_filter initialised_by_call graphs.graph graphs.edges sites.flow sites.row_flow sites.held_flow sites.size sites.row_size sites.held_size blocks.blocks blocks.row_blocks blocks.held_blocks eb.shape-the_row-Expr-0 eb.hidden-the_row-Expr-0 sb.shape-the_row-Stmt-0 sb.hidden-the_row-Stmt-0 sb.shape-the_row-Stmt-1 sb.hidden-the_row-Stmt-1 carrier.hidden
 filter-no_more = refl
 
-pub filter-fourth : each_allows (loops (graph clamp_filter)) (to_the_loop ++ (low_turn ++ (low_turn ++ low_turn))) 3 ≡ true
+pub filter-fourth : each_allows (loops (graph clamp_filter)) three_low_turns 3 ≡ true
 unfolding two_thresholds clamp_filter initialised_by_call graphs.graph graphs.edges sites.flow sites.row_flow sites.held_flow sites.size sites.row_size sites.held_size blocks.blocks blocks.row_blocks blocks.held_blocks eb.shape-the_row-Expr-0 eb.hidden-the_row-Expr-0 sb.shape-the_row-Stmt-0 sb.hidden-the_row-Stmt-0 sb.shape-the_row-Stmt-1 sb.hidden-the_row-Stmt-1 carrier.hidden
 filter-fourth = refl
 

@@ -1,5 +1,5 @@
--- The blocks of a function, in the order of their numbers, with their statements: what is found of a node by the name of its block. This
--- project's own.
+-- The blocks of a function, in the order of their numbers, with their statements: what is found of a node by the name
+-- of its block. This project's own.
 use Rattle.std.specs.Prelude.{◌≡◌, ℕ, if◌then◌else◌, List, [], ◌∷◌, ◌++◌, slice_get, Option, Some, None}
 use Rattle.c_tree.specs.declared.tree.Ty.{Ty}
 use Rattle.c_tree.specs.declared.tree.Expr.{Expr}

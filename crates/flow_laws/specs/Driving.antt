@@ -136,7 +136,7 @@ abbrev pub move_at : Option Site → Memory → Move
 move_at None m = Stuck
 move_at (Some s) m = act s.content m
 
--- where an edge leads, if it is there and leaves this node, whose statements are defined, by the end that its guard chooses
+-- where an edge leads, if it leaves this node, whose statements are defined, by the end that its guard chooses
 abbrev pub place_after : List Site → Option Edge → Place → Option Place
 place_after g None a = None
 place_after g (Some e) a =

@@ -63,8 +63,11 @@ to_the_loop = 0 ∷ 1 ∷ 2 ∷ []
 abbrev pub low_turn : List ℕ
 low_turn = 3 ∷ 6 ∷ 8 ∷ 10 ∷ 12 ∷ 14 ∷ 16 ∷ 18 ∷ 20 ∷ 5 ∷ []
 
+abbrev pub three_low_turns : List ℕ
+three_low_turns = to_the_loop ++ (low_turn ++ (low_turn ++ low_turn))
+
 abbrev pub four_low_turns : List ℕ
-four_low_turns = to_the_loop ++ (low_turn ++ (low_turn ++ (low_turn ++ low_turn)))
+four_low_turns = three_low_turns ++ low_turn
 
 -- ---- straight programs
 

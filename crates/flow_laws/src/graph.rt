@@ -22,9 +22,10 @@ pub struct Edge {
     pub way: Way,
 }
 
-/// A node. `block` is the block that it is a copy of; Entry, Exit and landings have none. `chain` has the call blocks in
-/// whose callees' copies it stands, outermost first. `cap` is its scale with calls inlined, which for Entry, Exit and landings
-/// is that of their place; no driven path leaves the node more often.
+/// A node. `block` is the block that it is a copy of; Entry, Exit and landings have none. `chain` has the call blocks
+/// in whose callees' copies it stands, outermost first. `cap` is its scale with calls inlined, which for Entry, Exit
+/// and landings is that of their place; no list that is contiguous from Entry and keeps the bounds of loops leaves it more
+/// often.
 #[derive(Drop)]
 pub struct Node {
     pub block: Option<BlockName>,
@@ -32,9 +33,10 @@ pub struct Node {
     pub cap: u64,
 }
 
-/// A copy of a loop. `bound` is how often its body may be entered within one entry of the loop, from 1 to 1,048,576 in a graph
-/// of a checked program. `into` has the numbers of the edges that enter it from outside, in ascending order; `turn` is the number
-/// of the `True` of its condition. `at_end` tells `do`, whose body is entered once before its condition is evaluated.
+/// A copy of a loop. `bound` is how often its body may be entered within one entry of the loop, from 1 to 1,048,576 in
+/// a graph of a checked program. `into` has the numbers of the edges that enter it from outside, in ascending order;
+/// `turn` is the number of the `True` of its condition. `at_end` tells `do`, whose body is entered once before its
+/// condition is evaluated.
 #[derive(Drop)]
 pub struct Loop {
     pub bound: u32,

@@ -24,18 +24,24 @@ pub fn edges_beside_each_other()
 
 /// Each node but Exit is left by an edge, and Exit by none.
 pub fn nodes_are_left()
-    ensures by_an_edge { (p : Program) (n : ℕ) → n < length (graph p) → n ≢ 1 → (j : ℕ) × IsEdgeFrom (edges (graph p)) n j }
+    ensures by_an_edge { (p : Program) (n : ℕ) → n < length (graph p) → n ≢ 1
+        → (j : ℕ) × IsEdgeFrom (edges (graph p)) n j }
     ensures exit { (p : Program) (j : ℕ) → IsEdgeFrom (edges (graph p)) 1 j → ⊥ }
 {}
 
 /// In the graph of a well-formed program each edge leaves a node and leads to a node other than Entry.
 pub fn edges_join_nodes()
-    ensures from { (p : Program) → WellFormed p → (j : ℕ) (e : Edge) → slice_get (edges (graph p)) j ≡ Some e → e.from < length (graph p) }
-    ensures to { (p : Program) → WellFormed p → (j : ℕ) (e : Edge) → slice_get (edges (graph p)) j ≡ Some e → e.to < length (graph p) }
-    ensures not_entry { (p : Program) → WellFormed p → (j : ℕ) (e : Edge) → slice_get (edges (graph p)) j ≡ Some e → 1 ≤ e.to }
+    ensures from { (p : Program) → WellFormed p → (j : ℕ) (e : Edge) → slice_get (edges (graph p)) j ≡ Some e
+        → e.from < length (graph p) }
+    ensures to { (p : Program) → WellFormed p → (j : ℕ) (e : Edge) → slice_get (edges (graph p)) j ≡ Some e
+        → e.to < length (graph p) }
+    ensures not_entry { (p : Program) → WellFormed p → (j : ℕ) (e : Edge) → slice_get (edges (graph p)) j ≡ Some e
+        → 1 ≤ e.to }
 {}
 
-/// The edges of the graph of a well-formed program are its open ends joined to nodes: for each property, as many edges have it.
+/// The edges of the graph of a well-formed program are its open ends joined to nodes: for each property, as many edges
+/// have it.
 pub fn edges_are_joined_ends()
-    ensures { (p : Program) → WellFormed p → (has : Edge → Bool) → times has (joined_edges p) ≡ times has (edges (graph p)) }
+    ensures { (p : Program) → WellFormed p → (has : Edge → Bool) → times has (joined_edges p)
+        ≡ times has (edges (graph p)) }
 {}

@@ -9,8 +9,10 @@ ghost use Rattle.flow_laws.specs.Loops.{AreNested};
 
 /// A loop's condition is one of its nodes, and an edge that leads into the loop from outside leads to its first node.
 pub fn loops_are_entered_at_the_first_node()
-    ensures test { (p : Program) (k : ℕ) (l : LoopCopy) → slice_get (loop_copies (graph p)) k ≡ Some l → is_in l.from l.past l.test ≡ true }
-    ensures first { (p : Program) (k : ℕ) (l : LoopCopy) (j : ℕ) (e : Edge) → slice_get (loop_copies (graph p)) k ≡ Some l
+    ensures test { (p : Program) (k : ℕ) (l : LoopCopy) → slice_get (loop_copies (graph p)) k ≡ Some l
+        → is_in l.from l.past l.test ≡ true }
+    ensures first { (p : Program) (k : ℕ) (l : LoopCopy) (j : ℕ) (e : Edge) → slice_get (loop_copies (graph p)) k
+        ≡ Some l
         → slice_get (edges (graph p)) j ≡ Some e → is_in l.from l.past e.from ≡ false → is_in l.from l.past e.to ≡ true
         → e.to ≡ l.from }
 {}
