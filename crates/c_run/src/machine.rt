@@ -21,7 +21,7 @@ pub(crate) struct Given<'a> {
 /// What is to be done next in the function at work.
 #[derive(Clone, Copy)]
 pub(crate) enum Task<'a> {
-    /// The statements of a list, of which the first block is `at`, unless `run` tells that a run of simple ones goes on.
+    /// The statements of a list, whose first block is `at`, unless `run` tells that a run of simple ones goes on.
     List {
         stmts: &'a [Stmt],
         at: usize,

@@ -7,6 +7,6 @@ pub enum RunEnd {
     Ends { cost: u128 },
     /// It comes to a step that C leaves undefined, before any loop passes its bound.
     Undefined,
-    /// A loop's body would be entered more often than its bound within one entry of the loop, before any undefined step.
+    /// A loop's body would be entered more often than its bound within one entry of the loop, before an undefined step.
     OverBound,
 }

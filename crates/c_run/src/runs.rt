@@ -15,9 +15,9 @@ use run_laws::costs_of_runs_fit;
 use std::alloc::Global;
 use typed_laws::program_is_well_formed;
 
-/// Runs a program on an input, and answers how the run ends (C11 6.5, 6.8): with the sum of the costs of the blocks that
-/// it enters, or at a step that is undefined, or where a loop's bound would be passed, whichever comes first. It returns,
-/// since every loop has a bound. `NoMemory` is want of memory.
+/// Runs a program on an input, and answers how the run ends (C11 6.5, 6.8): with the sum of the costs of the blocks
+/// that it enters, or at a step that is undefined, or where a loop's bound would be passed, whichever comes first. It
+/// returns, since every loop has a bound. `NoMemory` is want of memory.
 pub fn run(
     alloc: Global,
     program: &Program,

@@ -1,5 +1,5 @@
-//! How many blocks stand before what comes next. A number that passes `usize` stands for more statements than memory holds,
-//! and is answered by want of memory.
+//! How many blocks stand before what comes next. A number that passes `usize` stands for more statements than memory
+//! holds, and is answered by want of memory.
 
 ghost use Rattle.std.specs.Prelude.{◌≡◌, ◌+◌, false, IfOk};
 ghost use Rattle.c_tree.specs.Blocks as spec;

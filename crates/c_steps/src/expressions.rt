@@ -67,8 +67,8 @@ fn type_of(e: &Expr, s: &Memory) -> Ty
     }
 }
 
-/// The value of an expression, or None where it is undefined. No value changes a store, so the right operand of `&&` and `||` is
-/// evaluated also where it does not count.
+/// The value of an expression, or None where it is undefined. No value changes a store, so the right operand of `&&`
+/// and `||` is evaluated also where it does not count.
 #[tactic(auto, using(c_tree::proofs::ValLayers::val_layers))]
 pub fn value(e: &Expr, s: &Memory) -> Option<Value>
     ensures { result ≡ spec.val e.now s.now }

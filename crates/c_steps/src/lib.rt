@@ -1,5 +1,5 @@
-//! What the steps of a run are made of: a store and what changes it, the loops and the ways of statements, and the costs of
-//! blocks.
+//! What the steps of a run are made of: a store and what changes it, the loops and the ways of statements, and the
+//! costs of blocks.
 #![tactic(auto)]
 
 mod blocks;

@@ -1,4 +1,4 @@
-//! The slots of the locals of the function at work and of the globals, and what changes them (C11 6.2.4, 6.5.16, 6.7.9).
+//! The slots of the locals at work and of the globals, and what changes them (C11 6.2.4, 6.5.16, 6.7.9).
 
 ghost use Rattle.std.specs.Prelude.{◌≡◌, option_copied, slice_get, slice_set};
 ghost use Rattle.c_tree.specs.declared.value.Store.{Store};
