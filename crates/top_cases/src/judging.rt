@@ -1,6 +1,7 @@
 //! What the top call tells of a case.
 
 use crate::case::{part, shelf, sink, words};
+use crate::real::read_of;
 use case_lines::{CaseFault, on_one_line, parts};
 use squeeze_top::{Status, wcet_main};
 use std::alloc::{AllocError, Global};
@@ -26,6 +27,9 @@ fn judged<R: AllocGlobal + Files + Threads + Wait + Sync>(
     alloc: Global,
     line: &str,
 ) -> Result<String, CaseFault> {
+    if let Some(asked) = line.strip_prefix("read ") {
+        return read_of(rt, alloc, asked);
+    }
     let parts = parts(alloc, line)?;
     let words = words(alloc, part(&parts, 0))?;
     let mut out = sink(alloc, &parts)?;

@@ -1,11 +1,13 @@
 //! Cases of the top call. A case has its words, with a blank between them, the program `f.c`, the table `t.toml`, the
 //! numbers of the reads that fail, and how many bytes a write takes with the numbers of the writes that fail; calls
 //! are counted from 0. Parts that are wanting are empty, and a case that has words alone is over the real files beside
-//! the program. The answer is the status and what was written.
+//! the program. The answer is the status and what was written. A case `read NAME FROM MOST` reads a real file once; its
+//! answer is how many bytes it got, and which.
 #![tactic(auto)]
 
 mod case;
 mod judging;
+mod real;
 
 use case_lines::is_heading;
 use judging::answer_to;
