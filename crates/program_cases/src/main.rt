@@ -1,13 +1,14 @@
-//! Tests of the public calls on programs. Only reading a text makes a program, so these calls are tested here, above the
-//! readers, by cases that stand in `stdin`; `stdout` has their answers, which were worked out by hand from the rules.
+//! Tests of the public calls on programs. Only reading a text makes a program, so these calls are tested here, above
+//! the readers, by cases that stand in `stdin`; `stdout` has their answers, which were worked out by hand from the
+//! rules.
 //!
-//! A case is a line with ` ## ` between its parts and `@` for a line feed in a part: the call; the text of a program; what is
-//! given to the call; the entry, where it is not `main` (`''` is the empty name); the table of costs, where they are not
-//! plain. Parts at the end may be absent. The answer is one line, with `@` for a line feed. Lines that are empty or begin
-//! with `//` are headings, and are written as they are.
+//! A case is a line with ` ## ` between its parts and `@` for a line feed in a part: the call; the text of a program;
+//! what is given to the call; the entry, where it is not `main` (`''` is the empty name); the table of costs, where
+//! they are not plain. Parts at the end may be absent. The answer is one line, with `@` for a line feed. Lines that
+//! are empty or begin with `//` are headings, and are written as they are.
 //!
-//! `case` takes a line apart, `reading` makes programs, `fault` has the lines of refusals, `lists` those of lists; each other
-//! module answers the calls of one or two crates.
+//! `case` takes a line apart, `reading` makes programs, `fault` has the lines of refusals, `lists` those of lists;
+//! each other module answers the calls of one or two crates.
 #![tactic(auto)]
 
 mod bounds;

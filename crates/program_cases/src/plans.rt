@@ -34,8 +34,8 @@ fn caps(alloc: Global, plan: &Plan) -> Result<String, AllocError> {
     Ok(text)
 }
 
-/// The edges in order (`>`, `+` and `-` for next, true and false), and the loop copies: the bound, the edges that enter, the
-/// edge that turns, and `do` or not.
+/// The edges in order (`>`, `+` and `-` for next, true and false), and the loop copies: the bound, the edges that
+/// enter, the edge that turns, and `do` or not.
 pub(crate) fn joined(alloc: Global, case: &Case) -> Result<String, Fault> {
     let plan = plan_of(alloc, case, "")?;
     let edges = edges(alloc, &plan)?;
@@ -84,7 +84,8 @@ fn loop_copy(alloc: Global, copy: &Loop) -> Result<String, AllocError> {
     format!(in alloc; "{bound}/{into}/{turn}/{kind}")
 }
 
-/// The nodes in order: the block, or `-` for Entry, Exit and landings, and the calls in which it stands, outermost first.
+/// The nodes in order: the block, or `-` for Entry, Exit and landings, and the calls in which it stands, outermost
+/// first.
 pub(crate) fn placed(alloc: Global, case: &Case) -> Result<String, Fault> {
     let plan = plan_of(alloc, case, "")?;
     Ok(nodes(alloc, &plan)?)
