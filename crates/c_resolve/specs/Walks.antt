@@ -1,14 +1,9 @@
 -- Where the walk over a function stands, and statements that may be there or not.
-use Rattle.std.specs.Prelude.{◌≡◌, ◌+◌, Bool, List, [], ◌++◌, length, take, Option, Some, None, option_map}
+use Rattle.std.specs.Prelude.{◌≡◌, ◌+◌, Bool, List, [], length, take, Option, Some, None}
 use Rattle.c_tree.specs.declared.program.Local.{Local}
 use Rattle.c_tree.specs.declared.unit.RawStmt.{RawStmt}
-use Rattle.c_tree.specs.declared.tree.Stmt.{Stmt}
-use Rattle.c_tree.specs.declared.tree.Stmt.TheVariants as stmt
-use Rattle.c_tree.specs.declared.unit.RawBound.{RawBound}
-use Rattle.c_tree.specs.declared.unit.RawExpr.{RawExpr}
-use Rattle.c_tree.specs.Constants.{expr_of}
-use Rattle.c_tree.specs.Naming.{Scope, looping, past, behind, bound_number, stmt_locals, list_locals, stmt_of, stmts_of}
-use Rattle.c_tree.specs.Uses.{Use, expr_uses, stmt_uses, stmts_uses}
+use Rattle.c_tree.specs.Naming.{Scope, behind, stmt_locals}
+use Rattle.c_tree.specs.Uses.{Use, stmt_uses}
 use Rattle.c_resolve.specs.declared.checker.Checker.{Checker}
 use Rattle.c_resolve.specs.declared.checker.Outer.{Outer}
 
@@ -41,18 +36,3 @@ option_uses s (Some x) = stmt_uses s x
 abbrev pub option_locals : Option RawStmt → List Local
 option_locals None = []
 option_locals (Some x) = stmt_locals x
-
--- ---- a `for`, whose names have a scope of their own
-
-abbrev pub for_stmt : Scope → Option RawBound → Option RawStmt → RawExpr → Option RawStmt → List RawStmt → Stmt
-for_stmt s k a e b xs =
-    let t = option_behind s a in
-    stmt.For (bound_number k) (option_map (stmt_of s) a) (expr_of t.known e) (option_map (stmt_of t) b) (stmts_of (looping (option_behind t b)) xs)
-
-abbrev pub for_behind : Scope → Option RawStmt → Option RawStmt → List RawStmt → Scope
-for_behind s a b xs = past (option_behind (option_behind s a) b) (list_locals xs)
-
-abbrev pub for_uses : Scope → Option RawStmt → RawExpr → Option RawStmt → List RawStmt → List Use
-for_uses s a e b xs =
-    let t = option_behind s a in
-    option_uses s a ++ (expr_uses t.known e ++ (option_uses t b ++ stmts_uses (looping (option_behind t b)) xs))

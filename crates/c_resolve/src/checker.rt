@@ -106,6 +106,7 @@ impl<'a> Checker<'a> {
     }
 
     /// A declaration in a list.
+    #[tactic(auto, using(c_faults::proofs::Heard::heard))]
     pub(crate) fn declaration(
         &mut self,
         constant: bool,
@@ -118,49 +119,20 @@ impl<'a> Checker<'a> {
         ensures first { OnOk result (self.new.verdict ≡ after_uses self.old.verdict (declarator_uses (scope_of self.old) constant ty x.now shape.now)) }
     {
         match shape {
-            RawShape::Scalar(e) => self.scalar(constant, ty, x, e),
-            RawShape::Array(length, list) => self.array(constant, ty, x, length, list),
+            RawShape::Scalar(e) => {
+                let local = self.declare(constant, ty, x, None)?;
+                let e = expr::optional(self.alloc, &self.names, &mut self.verdict, e)?;
+                Ok(Stmt::Scalar(local, e))
+            }
+            RawShape::Array(length, list) => {
+                expr::length(self.alloc, &self.names, &mut self.verdict, length)?;
+                let size = c_constants::array_length(length, list)?;
+                let local = self.declare(constant, ty, x, Some(size))?;
+                self.verdict.sized(x.at, size, expr::count(list), true);
+                let list = expr::list(self.alloc, &self.names, &mut self.verdict, list)?;
+                Ok(Stmt::Array(local, list))
+            }
         }
-    }
-
-    // The declaration of a scalar.
-    #[tactic(auto, using(c_faults::proofs::Heard::heard))]
-    fn scalar(
-        &mut self,
-        constant: bool,
-        ty: Ty,
-        x: &'a Spot,
-        e: &Option<RawExpr>,
-    ) -> Result<Stmt, NoMemory>
-        ensures tree { IfOk result (λ s. s ≡ naming.declaration (naming.declared (scope_of self.old) constant ty x.now.name (shape_length (RawShape.Scalar e.now))).known (length self.old.locals) (RawShape.Scalar e.now)) }
-        ensures scope { OnOk result (scope_of self.new ≡ naming.declared (scope_of self.old) constant ty x.now.name (shape_length (RawShape.Scalar e.now))) }
-        ensures first { OnOk result (self.new.verdict ≡ after_uses self.old.verdict (declarator_uses (scope_of self.old) constant ty x.now (RawShape.Scalar e.now))) }
-    {
-        let local = self.declare(constant, ty, x, None)?;
-        let e = expr::optional(self.alloc, &self.names, &mut self.verdict, e)?;
-        Ok(Stmt::Scalar(local, e))
-    }
-
-    // The declaration of an array.
-    #[tactic(auto, using(c_faults::proofs::Heard::heard))]
-    fn array(
-        &mut self,
-        constant: bool,
-        ty: Ty,
-        x: &'a Spot,
-        size: &Option<RawExpr>,
-        list: &Option<Items<RawExpr>>,
-    ) -> Result<Stmt, NoMemory>
-        ensures tree { IfOk result (λ s. s ≡ naming.declaration (naming.declared (scope_of self.old) constant ty x.now.name (shape_length (RawShape.Array size.now list.now))).known (length self.old.locals) (RawShape.Array size.now list.now)) }
-        ensures scope { OnOk result (scope_of self.new ≡ naming.declared (scope_of self.old) constant ty x.now.name (shape_length (RawShape.Array size.now list.now))) }
-        ensures first { OnOk result (self.new.verdict ≡ after_uses self.old.verdict (declarator_uses (scope_of self.old) constant ty x.now (RawShape.Array size.now list.now))) }
-    {
-        expr::length(self.alloc, &self.names, &mut self.verdict, size)?;
-        let size = c_constants::array_length(size, list)?;
-        let local = self.declare(constant, ty, x, Some(size))?;
-        self.verdict.sized(x.at, size, expr::count(list), true);
-        let list = expr::list(self.alloc, &self.names, &mut self.verdict, list)?;
-        Ok(Stmt::Array(local, list))
     }
 
     /// The length of an array, if it is written.

@@ -6,7 +6,7 @@ ghost use Rattle.c_tree.specs.Naming.{past, targeted, behind, stmt_of, stmts_of,
 ghost use Rattle.c_tree.specs.Uses.{Left, place_uses, target_uses, has_target, stmt_uses, stmts_uses};
 ghost use Rattle.c_tree.specs.declared.unit.RawStmt.TheVariants as raw;
 ghost use Rattle.c_faults.specs.Verdicts.{after_uses};
-ghost use Rattle.c_resolve.specs.Walks.{scope_of, within, option_behind, option_uses, for_stmt, for_behind, for_uses};
+ghost use Rattle.c_resolve.specs.Walks.{scope_of, within, option_behind, option_uses};
 
 use crate::checker::Checker;
 use crate::expr;
@@ -234,79 +234,6 @@ impl<'a> Checker<'a> {
         Ok(Stmt::Do(bound_number(bound), body, condition))
     }
 
-    // An `if`, with a list for each side.
-    #[cycle(stmts)]
-    #[tactic(auto, using(c_faults::proofs::Heard::heard, crate::proofs::StmtLayers::stmt_layers, crate::proofs::StmtLayers::stmt_use_layers, crate::proofs::StmtLayers::behind_layers))]
-    fn branch(
-        &mut self,
-        condition: &RawExpr,
-        first: &'a Items<RawStmt>,
-        second: &'a Items<RawStmt>,
-    ) -> Result<Stmt, NoMemory>
-        ensures tree { IfOk result (λ s. s ≡ stmt_of (scope_of self.old) (raw.If condition.now first.now second.now)) }
-        ensures scope { OnOk result (scope_of self.new ≡ behind (scope_of self.old) (raw.If condition.now first.now second.now)) }
-        ensures first { OnOk result (self.new.verdict ≡ after_uses self.old.verdict (stmt_uses (scope_of self.old) (raw.If condition.now first.now second.now))) }
-    {
-        let condition = expr::expr(self.alloc, &self.names, &mut self.verdict, condition)?;
-        let first = self.inner(self.looped, first)?;
-        let second = self.inner(self.looped, second)?;
-        Ok(Stmt::If(condition, first, second))
-    }
-
-    // A list inside.
-    #[cycle(stmts)]
-    #[tactic(auto, using(c_faults::proofs::Heard::heard, crate::proofs::StmtLayers::stmt_layers, crate::proofs::StmtLayers::stmt_use_layers, crate::proofs::StmtLayers::behind_layers))]
-    fn group(&mut self, body: &'a Items<RawStmt>) -> Result<Stmt, NoMemory>
-        ensures tree { IfOk result (λ s. s ≡ stmt_of (scope_of self.old) (raw.Group body.now)) }
-        ensures scope { OnOk result (scope_of self.new ≡ behind (scope_of self.old) (raw.Group body.now)) }
-        ensures first { OnOk result (self.new.verdict ≡ after_uses self.old.verdict (stmt_uses (scope_of self.old) (raw.Group body.now))) }
-    {
-        Ok(Stmt::Group(self.inner(self.looped, body)?))
-    }
-
-    // The parts of a `for`, in the scope of its names.
-    #[cycle(stmts)]
-    fn for_parts(
-        &mut self,
-        bound: Option<RawBound>,
-        initial: &'a Option<Boxed<RawStmt>>,
-        condition: &RawExpr,
-        step: &'a Option<Boxed<RawStmt>>,
-        body: &'a Items<RawStmt>,
-    ) -> Result<Stmt, NoMemory>
-        ensures tree { IfOk result (λ s. s ≡ for_stmt (scope_of self.old) bound initial.now condition.now step.now body.now) }
-        ensures scope { OnOk result (scope_of self.new ≡ for_behind (scope_of self.old) initial.now step.now body.now) }
-        ensures first { OnOk result (self.new.verdict ≡ after_uses self.old.verdict (for_uses (scope_of self.old) initial.now condition.now step.now body.now)) }
-    {
-        let initial = self.held(initial)?;
-        let condition = expr::expr(self.alloc, &self.names, &mut self.verdict, condition)?;
-        let step = self.held(step)?;
-        let body = self.inner(true, body)?;
-        Ok(Stmt::For(bound_number(bound), initial, condition, step, body))
-    }
-
-    // A `for`, whose names are in scope to its end.
-    #[cycle(stmts)]
-    fn for_loop(
-        &mut self,
-        at: u32,
-        bound: Option<RawBound>,
-        initial: &'a Option<Boxed<RawStmt>>,
-        condition: &RawExpr,
-        step: &'a Option<Boxed<RawStmt>>,
-        body: &'a Items<RawStmt>,
-    ) -> Result<Stmt, NoMemory>
-        ensures tree { IfOk result (λ s. s ≡ stmt_of (scope_of self.old) (raw.For at bound initial.now condition.now step.now body.now)) }
-        ensures scope { OnOk result (scope_of self.new ≡ behind (scope_of self.old) (raw.For at bound initial.now condition.now step.now body.now)) }
-        ensures first { OnOk result (self.new.verdict ≡ after_uses self.old.verdict (stmt_uses (scope_of self.old) (raw.For at bound initial.now condition.now step.now body.now))) }
-    {
-        self.verdict.looped(at, bound);
-        let outer = self.open(self.looped)?;
-        let stmt = self.for_parts(bound, initial, condition, step, body)?;
-        self.close(outer)?;
-        Ok(stmt)
-    }
-
     // A statement.
     #[cycle(stmts)]
     #[tactic(auto, using(c_faults::proofs::Heard::heard, crate::proofs::StmtLayers::stmt_layers, crate::proofs::StmtLayers::stmt_use_layers, crate::proofs::StmtLayers::behind_layers))]
@@ -323,13 +250,25 @@ impl<'a> Checker<'a> {
             RawStmt::Break(at) => Ok(self.leaving(*at, Stmt::Break)),
             RawStmt::Continue(at) => Ok(self.leaving(*at, Stmt::Continue)),
             RawStmt::Return(at, e) => self.returning(*at, e),
-            RawStmt::If(e, first, second) => self.branch(e, first, second),
+            RawStmt::If(e, first, second) => {
+                let e = expr::expr(self.alloc, &self.names, &mut self.verdict, e)?;
+                let first = self.inner(self.looped, first)?;
+                let second = self.inner(self.looped, second)?;
+                Ok(Stmt::If(e, first, second))
+            }
             RawStmt::While(at, bound, e, body) => self.while_loop(*at, *bound, body, e),
             RawStmt::Do(at, bound, body, e) => self.do_loop(*at, *bound, body, e),
             RawStmt::For(at, bound, initial, e, step, body) => {
-                self.for_loop(*at, *bound, initial, e, step, body)
+                self.verdict.looped(*at, *bound);
+                let outer = self.open(self.looped)?;
+                let initial = self.held(initial)?;
+                let e = expr::expr(self.alloc, &self.names, &mut self.verdict, e)?;
+                let step = self.held(step)?;
+                let body = self.inner(true, body)?;
+                self.close(outer)?;
+                Ok(Stmt::For(bound_number(*bound), initial, e, step, body))
             }
-            RawStmt::Group(body) => self.group(body),
+            RawStmt::Group(body) => Ok(Stmt::Group(self.inner(self.looped, body)?)),
         }
     }
 }

@@ -1,5 +1,5 @@
 -- A capped span is above 2^64 where the span is.
-use Rattle.std.proofs.Common.{◌≡◌, ℕ, ◌+◌, ◌^◌, min, Bool, Option, List, [], ◌∷◌, ◌++◌, map, refl, ap, ◌∙◌, sym, arith}
+use Rattle.std.proofs.Common.{◌≡◌, ℕ, ◌+◌, ◌^◌, min, Bool, Option, List, [], ◌∷◌, ◌++◌, map, refl, sym, arith}
 use Rattle.std.specs.Prelude.{nat_lt}
 use Rattle.std.proofs.lemmas.Bool.Decides.{nat_tests}
 use Rattle.c_tree.specs.declared.tree.Ty.{Ty}

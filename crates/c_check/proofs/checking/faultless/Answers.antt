@@ -1,4 +1,4 @@
-use Rattle.std.proofs.Common.{List, ℕ, Option, option_map, sym, ap, subst}
+use Rattle.std.proofs.Common.{List, ℕ, Option, option_map, sym, ap, ◌∙◌, subst}
 use Rattle.std.specs.Prelude.{IfSome}
 use Rattle.c_tree.specs.Refusals.{Refusal, IsRefused, Typed}
 use Rattle.c_check.specs.Parts.{with_parts}
