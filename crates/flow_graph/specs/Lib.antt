@@ -3,5 +3,7 @@ pub mod Amounts
 pub mod Spots
 pub mod Layout
 pub mod Joints
+pub mod Leaving
+pub mod Spans
 pub mod Plans
 pub mod Worked
