@@ -1,6 +1,6 @@
 -- The edges that leave a node are those that are laid out for it, and a loop copy stands where it is laid out.
 use Rattle.std.proofs.Common.{◌≡◌, ◌<◌, ◌⊎◌, inl, inr, ℕ, zero, suc, ◌+◌, List, [], ◌∷◌, ◌++◌, length, take, drop, get_or, Option, Some, None, refl, sym, ap, ◌∙◌, subst, arith, append_assoc, length-append}
-use Rattle.std.specs.Prelude.{slice_get, map}
+use Rattle.std.specs.Prelude.{slice_get, slice_index_or, map}
 use Rattle.std.proofs.lemmas.List.{map-append}
 use Rattle.flow_laws.specs.declared.graph.Way.TheVariants.{Next, True, False}
 use Rattle.flow_laws.specs.declared.graph.Edge.{Edge}
@@ -216,6 +216,17 @@ table_outs g n o h is =
     let both : Some o ≡ Some (outs_from (first_out g n) (ends_of s.0.content)) = sym is ∙ table_at g n 0 0 s.0 s.1 ∙ ap (λ k. Some (outs_from k (ends_of s.0.content))) (first_is g n) in
     let same : outs_from (first_out g n) (ends_of s.0.content) ≡ o = cc in
     subst (AreOuts (edges g) n) same (outs_of_node g n s.0 s.1)
+
+some_at : (xs : List Outs) (n : ℕ) (d : Outs) → n < length xs → slice_get xs n ≡ Some (slice_index_or xs n d)
+some_at [] n d h = absurd (omega (arith, h))
+some_at (x ∷ xs) zero d h = refl
+some_at (x ∷ xs) (suc n) d h = some_at xs n d (omega (arith, h))
+
+pub table_index : (g : List Site) (xs : List Outs) (n : ℕ) → n < length g → xs ≡ all_outs 0 (spots g) → AreOuts (edges g) n (slice_index_or xs n Nowhere)
+table_index g xs n h is =
+    let all = all_outs 0 (spots g) in
+    let within : n < length all = omega (arith, h, table_long 0 g) in
+    subst (λ ys. AreOuts (edges g) n (slice_index_or ys n Nowhere)) (sym is) (table_outs g n (slice_index_or all n Nowhere) h (some_at all n Nowhere within))
 
 -- one node more
 pub outs_step : (xs : List Spot) (i : ℕ) (x : Spot) (old new whole : List Outs) (first count : ℕ) → i < length xs → x ≡ get_or xs i x → new ≡ old ++ outs_from first x.ends ∷ [] → count ≡ length (outs_of 0 x) → old ++ all_outs first (drop i xs) ≡ whole → new ++ all_outs (first + count) (drop (i + 1) xs) ≡ whole

@@ -13,5 +13,6 @@ pub mod Parts
 pub mod Unfolded
 pub mod Drawn
 pub mod Leaving
+pub mod Landed
 pub mod Measured
 pub mod Worked

@@ -5,5 +5,6 @@ pub mod Layout
 pub mod Joints
 pub mod Leaving
 pub mod Spans
+pub mod Landings
 pub mod Plans
 pub mod Worked

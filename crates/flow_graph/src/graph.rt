@@ -7,6 +7,7 @@ ghost use Rattle.c_tree.specs.WellFormed.{WellFormed};
 ghost use Rattle.flow_laws.specs.Graphs.{graph, nodes, edges, loops, loop_copies};
 ghost use Rattle.flow_laws.specs.Paths.{edge_cost, follows, keeps_each};
 ghost use Rattle.flow_graph.specs.Limits.{block_copies, refusal};
+ghost use Rattle.flow_graph.specs.Landings.{calls};
 ghost use Rattle.flow_graph.specs.Leaving.{AreOuts};
 ghost use Rattle.flow_graph.specs.Plans.{IsPlan, IsPlanned, planned, keeps_all};
 ghost use Rattle.flow_graph.specs.Spans.{span_of};
@@ -15,7 +16,7 @@ use crate::lists::{edge_cost, follows, keeps_each, names_edges};
 use crate::onward::Outs;
 use crate::interval::Span;
 use crate::spot::Spot;
-use c_tree::{Costs, Program};
+use c_tree::{BlockName, Costs, Program};
 use flow_laws::{Edge, Loop, Node};
 use sqlite_items::Items;
 use std::marker::Model;
@@ -142,6 +143,14 @@ impl Plan {
         ensures cap { result.now.cap ≤ 2 ^ 40 }
     {
         &self.spots.as_slice()[n as usize].node
+    }
+
+    /// Of a landing the block of its call; no other node has one.
+    pub fn call(&self, n: u32) -> Option<BlockName>
+        requires { n < length (graph self.now.program) }
+        ensures { slice_get (calls (graph self.now.program)) n ≡ Some result }
+    {
+        self.spots.as_slice()[n as usize].call
     }
 
     /// The edges that leave the node number `n`: none where it is Exit, two where it is a condition, else one. It takes

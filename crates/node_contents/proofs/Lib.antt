@@ -1,0 +1,5 @@
+pub mod PieceLayers
+mod Gathered
+pub mod Found
+mod Tabled
+mod Acting
