@@ -115,7 +115,7 @@ driven_keeps g (e ∷ q) a b n l c is h =
 abbrev pub AllCount : List Site → Counters → List Edge → Type 0
 AllCount g left q = (n : ℕ) (l : LoopCopy) (c : Expr) → IsLoopAt g n l c → keeps_from (enters l) (turns l) (limit l) (left l) q ≡ true
 
-count_step : (l : LoopCopy) (q : List Edge) (left : Option ℕ) (en tu : Bool) → (if en then keeps_from (enters l) (turns l) (limit l) (Some (limit l)) q else (if tu then after_turn left (λ m. keeps_from (enters l) (turns l) (limit l) m q) else keeps_from (enters l) (turns l) (limit l) left q)) ≡ true → keeps_from (enters l) (turns l) (limit l) (if en then Some (limit l) else (if tu then option_map (λ n. n - 1) left else left)) q ≡ true
+pub count_step : (l : LoopCopy) (q : List Edge) (left : Option ℕ) (en tu : Bool) → (if en then keeps_from (enters l) (turns l) (limit l) (Some (limit l)) q else (if tu then after_turn left (λ m. keeps_from (enters l) (turns l) (limit l) m q) else keeps_from (enters l) (turns l) (limit l) left q)) ≡ true → keeps_from (enters l) (turns l) (limit l) (if en then Some (limit l) else (if tu then option_map (λ n. n - 1) left else left)) q ≡ true
 count_step l q left true tu k = k
 count_step l q left false false k = k
 count_step l q None false true k = k
@@ -129,7 +129,7 @@ not_zero l q None false true ee te k = refl
 not_zero l q (Some zero) false true ee te k = absurd (cc)
 not_zero l q (Some (suc n)) false true ee te k = refl
 
-under_at : (g : List Site) (n : ℕ) (nd : Site) (left : Counters) (e : Edge) (q : List Edge) → slice_get g n ≡ Some nd → AllTested 0 g → e.from ≡ n → AllCount g left (e ∷ q) → (c : Content) → nd.content ≡ c → (t : EdgeWay) → e.way ≡ t → is_over c t left ≡ false
+pub under_at : (g : List Site) (n : ℕ) (nd : Site) (left : Counters) (e : Edge) (q : List Edge) → slice_get g n ≡ Some nd → AllTested 0 g → e.from ≡ n → AllCount g left (e ∷ q) → (c : Content) → nd.content ≡ c → (t : EdgeWay) → e.way ≡ t → is_over c t left ≡ false
 under_at g n nd left e q has turned from all (Test (Some l) x) content True te =
     let at_n : IsTested (0 + n) nd.content = turned_at 0 n g nd turned has in
     let here : TestIs (0 + n) l = subst (IsTested (0 + n)) content at_n in

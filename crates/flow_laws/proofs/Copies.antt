@@ -52,7 +52,7 @@ row_onces os cs [] run x n = refl
 row_onces os cs (y ∷ xs) run x n =
     ap (λ d. once os cs y run x n + d) (row_onces os cs xs (is_simple y) x (n + size cs y run))
 
-row_fair : (xs : List Stmt) → AllFair xs → AreFair (hidden-the_row-Stmt-0 xs)
+pub row_fair : (xs : List Stmt) → AllFair xs → AreFair (hidden-the_row-Stmt-0 xs)
 unfolding IsFair AreFair shape-the_row-Stmt-0 hidden-the_row-Stmt-0 hidden
 row_fair [] h = tt
 row_fair (x ∷ xs) h = (h.0, row_fair xs h.1)

@@ -37,7 +37,7 @@ pub record TargetsAre (P : ℕ → Type 0) (k : Targets) : Type 0 where
   pub continues : P k.continues
   pub returns : P k.returns
 
-lead_append : (P : ℕ → Type 0) (a b : List Site) → AllLead P a → AllLead P b → AllLead P (a ++ b)
+pub lead_append : (P : ℕ → Type 0) (a b : List Site) → AllLead P a → AllLead P b → AllLead P (a ++ b)
 lead_append P [] b h k = k
 lead_append P (s ∷ a) b h k = (h.0, lead_append P a b h.1 k)
 

@@ -62,7 +62,7 @@ to_list P [] h = tt
 to_list P (s ∷ g) h =
     all_append P (loops_at s.content) (loop_copies g) (all_node P s.content (λ l e is. h 0 s l e refl is)) (to_list P g (λ i x l c has is. h (suc i) x l c has is))
 
-from_list : (P : LoopCopy → Type 0) (g : List Site) → AllOf P (loop_copies g) → EachLoop P g
+pub from_list : (P : LoopCopy → Type 0) (g : List Site) → AllOf P (loop_copies g) → EachLoop P g
 from_list P [] h i s l c has is = absurd (cc)
 from_list P (x ∷ g) h zero s l c has is =
     let same : x ≡ s = cc in
@@ -94,14 +94,14 @@ numbers_keep g i l c js q is names h =
     let same = keeps_names (edges g) a b (enters l) (turns l) (limit l) (into_is g l) (turn_is g i l c is) js q names None in
     counter_keeps a b (limit l) js None (same ∙ keeps_counter (enters l) (turns l) (limit l) q h)
 
-edges_keep : (g : List Site) (i : ℕ) (l : LoopCopy) (c : Expr) (js : List ℕ) (q : List Edge) → IsLoopAt g i l c → Names (edges g) js q → Keeps (loop_of g l) js → KeepsBy (enters l) (turns l) (limit l) q
+pub edges_keep : (g : List Site) (i : ℕ) (l : LoopCopy) (c : Expr) (js : List ℕ) (q : List Edge) → IsLoopAt g i l c → Names (edges g) js q → Keeps (loop_of g l) js → KeepsBy (enters l) (turns l) (limit l) q
 edges_keep g i l c js q is names h =
     let a : ℕ → Bool = λ j. is_among j (positions 0 (enters l) (edges g)) in
     let b : ℕ → Bool = λ j. j == first_out g l.test in
     let same = keeps_names (edges g) a b (enters l) (turns l) (limit l) (into_is g l) (turn_is g i l c is) js q names None in
     counter_keeps (enters l) (turns l) (limit l) q None (sym same ∙ keeps_counter a b (limit l) js h)
 
-each_to_all : (g : List Site) (ls : List LoopCopy) (js : List ℕ) → KeepsEach (map (loop_of g) ls) js → AllOf (λ l. Keeps (loop_of g l) js) ls
+pub each_to_all : (g : List Site) (ls : List LoopCopy) (js : List ℕ) → KeepsEach (map (loop_of g) ls) js → AllOf (λ l. Keeps (loop_of g l) js) ls
 each_to_all g [] js h = tt
 each_to_all g (l ∷ ls) js h = (h.0, each_to_all g ls js h.1)
 

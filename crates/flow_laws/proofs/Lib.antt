@@ -28,3 +28,14 @@ pub mod Ends
 pub mod Joined
 pub mod JoinedGraph
 pub mod CapSums
+pub mod Joining
+pub mod BoundsOn
+pub mod Computed
+pub mod Conserved
+pub mod Nested
+pub mod LoopLaws
+pub mod Leaving
+pub mod Roaming
+pub mod Capped
+pub mod KeptCaps
+pub mod WorkedDriving

@@ -80,7 +80,7 @@ in_outs n nd (Enter tg ls es) m x t h =
 in_outs n nd Missing m x t h = absurd (cc)
 in_outs n nd (Land tg ty b) m x t h = alone n nd t (lands tg (result_of ty m.result) m.frames m.store.globals t x h)
 
-in_edges : (n i : ℕ) (g : List Site) (nd : Site) (e : Edge) → slice_get g i ≡ Some nd → Numbered (outs (n + i) nd nd.content) e → Numbered (edges_from n g) e
+pub in_edges : (n i : ℕ) (g : List Site) (nd : Site) (e : Edge) → slice_get g i ≡ Some nd → Numbered (outs (n + i) nd nd.content) e → Numbered (edges_from n g) e
 in_edges n i [] nd e h k = absurd (cc)
 in_edges n zero (x ∷ g) nd e h k =
     let p : nd ≡ x = cc in

@@ -33,7 +33,7 @@ pub fresh_below : (n lo hi t : ℕ) (turn : EdgeWay) (m : Memory) (left : Counte
 fresh_below n lo hi t turn m left lt l le ge here = passed_fresh l (edge n turn t) left here (inr (omega (arith, lt, ge)))
 
 -- a turn counts down
-passed_turn : (l : LoopCopy) (e : Edge) (left : Counters) (t : ℕ) → l.from ≤ e.from → e.from < l.past → turns l e ≡ true → left l ≡ Some (suc t) → passed e left l ≡ Some t
+pub passed_turn : (l : LoopCopy) (e : Edge) (left : Counters) (t : ℕ) → l.from ≤ e.from → e.from < l.past → turns l e ≡ true → left l ≡ Some (suc t) → passed e left l ≡ Some t
 passed_turn l e left t le lt turn full =
     ap (λ b. if b then Some (limit l) else (if turns l e then option_map (λ n. n - 1) (left l) else left l)) (not_enters l e le lt) ∙ ap (λ b. if b then option_map (λ n. n - 1) (left l) else left l) turn ∙ ap (option_map (λ n. n - 1)) full ∙ ap Some (minus_one t)
   where

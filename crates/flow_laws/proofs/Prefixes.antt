@@ -19,7 +19,7 @@ driven_follows p i q h = ap is_some (walks_lead (graph p) q 0 (start p i) h.node
 keeps_front : (l : Loop) (a b : List ℕ) → Keeps l (a ++ b) → Keeps l a
 keeps_front l a b h x y z j e en none = h x y (z ++ b) j (ap (λ t. t ++ b) e ∙ append_assoc x (j ∷ (y ++ z)) b ∙ ap (λ t. x ++ (j ∷ t)) (append_assoc y z b)) en none
 
-each_front : (ls : List Loop) (a b : List ℕ) → KeepsEach ls (a ++ b) → KeepsEach ls a
+pub each_front : (ls : List Loop) (a b : List ℕ) → KeepsEach ls (a ++ b) → KeepsEach ls a
 each_front [] a b h = tt
 each_front (l ∷ ls) a b h = (keeps_front l a b h.0, each_front ls a b h.1)
 

@@ -80,7 +80,7 @@ count_by l q zero false true off next k = absurd (cc)
 count_by l q (suc n) false true off next k = omega (arith, next n k)
 count_by l q n false false off next k = next n k
 
-turns_under : (i : ℕ) (l : LoopCopy) (q : List Edge) (n : ℕ) → TestIs i l → keeps_from (enters l) (turns l) (limit l) (Some n) q ≡ true → times (turns l) q ≤ n + (limit l) * times (enters l) q
+pub turns_under : (i : ℕ) (l : LoopCopy) (q : List Edge) (n : ℕ) → TestIs i l → keeps_from (enters l) (turns l) (limit l) (Some n) q ≡ true → times (turns l) q ≤ n + (limit l) * times (enters l) q
 turns_under i l [] n is k = omega arith
 turns_under i l (e ∷ q) n is k =
     count_by l q n (enters l e) (turns l e) (apart i l e is) (λ m. turns_under i l q m is) k
@@ -119,7 +119,7 @@ loop_row p i js h n l c fair is =
     let entered = total_positions js (enters l) 0 (edges g) ∙ total_names (enters l) (edges g) js d.list d.names in
     subst (λ y. count js (first_out g l.test) ≤ limit l * y) (sym entered) (subst (λ y. y ≤ limit l * times (enters l) d.list) (sym turned) row)
 
-each_is_of : (g : List Site) (js : List ℕ) (ls : List LoopCopy) → AllOf (λ l. IsTurnedWithin js (loop_of g l)) ls → (k : ℕ) (l : Loop) → slice_get (map (loop_of g) ls) k ≡ Some l → IsTurnedWithin js l
+pub each_is_of : (g : List Site) (js : List ℕ) (ls : List LoopCopy) → AllOf (λ l. IsTurnedWithin js (loop_of g l)) ls → (k : ℕ) (l : Loop) → slice_get (map (loop_of g) ls) k ≡ Some l → IsTurnedWithin js l
 each_is_of g js [] h k l e = absurd (cc)
 each_is_of g js (x ∷ ls) h zero l e = let p : loop_of g x ≡ l = cc in subst (IsTurnedWithin js) p h.0
 each_is_of g js (x ∷ ls) h (suc k) l e = each_is_of g js ls h.1 k l e

@@ -74,7 +74,7 @@ pub record After (lo hi : ℕ) (a b : State) : Type 0 where
   pub fresh : (l : LoopCopy) → (l.past ≤ lo) ⊎ (hi ≤ l.from) → IsFresh l a → IsFresh l b
   pub same : (l : LoopCopy) → l.from ≤ lo → hi ≤ l.past → (l.test < lo) ⊎ (hi ≤ l.test) → b.left l ≡ a.left l
 
-enters_from : (l : LoopCopy) (e : Edge) → l.from ≡ e.to → (e.from < l.from) ⊎ (l.past ≤ e.from) → enters l e ≡ true
+pub enters_from : (l : LoopCopy) (e : Edge) → l.from ≡ e.to → (e.from < l.from) ⊎ (l.past ≤ e.from) → enters l e ≡ true
 enters_from l e p h = enter (l.from) (l.past) (e.from) (e.to) p h
   where
     enter : (from past n to : ℕ) → from ≡ to → (n < from) ⊎ (past ≤ n) → ((to == from) && not (is_in from past n)) ≡ true

@@ -24,6 +24,10 @@ pub record DrivesPath (p : Program) (i : Input) (q : List ℕ) : Type 0 where
 abbrev pub IsDriven : Program → List ℕ → Type 0
 IsDriven p q = (i : Input) × IsTrue (fits p i) × DrivesPath p i q
 
+-- a driven list: some fitting input drives it
+abbrev pub IsDrivenList : Program → List ℕ → Type 0
+IsDrivenList p q = (i : Input) × IsTrue (fits p i) × Drives p i q
+
 -- the input drives a path of price n
 abbrev pub DrivesAt : Program → Costs → Input → ℕ → Type 0
 DrivesAt p t i n = (q : List ℕ) × DrivesPath p i q × (price t (graph p) q ≡ n)

@@ -1,6 +1,6 @@
 -- Driving: which lists of edges an input takes from Entry on. The statements of each source are defined, the guard of each edge holds, and
 -- each loop keeps its bound (statements as in C11 6.8; the bounds are this project's own).
-use Rattle.std.specs.Prelude.{◌≡◌, ℕ, if◌then◌else◌, List, [], ◌∷◌, length, drop, slice_get, Option, Some, None, option_and_then, option_map}
+use Rattle.std.specs.Prelude.{◌≡◌, ℕ, ◌==◌, ◌&&◌, Bool, true, false, is_some, if◌then◌else◌, List, [], ◌∷◌, length, drop, slice_get, Option, Some, None, option_and_then, option_map}
 use Rattle.c_tree.specs.declared.tree.Stmt.{Stmt}
 use Rattle.c_tree.specs.declared.tree.Expr.{Expr}
 use Rattle.c_tree.specs.declared.tree.Target.{Target}
@@ -19,7 +19,7 @@ use Rattle.flow_laws.specs.declared.graph.Way.TheVariants.{Next, True, False}
 use Rattle.flow_laws.specs.declared.graph.Edge.{Edge}
 use Rattle.flow_laws.specs.Sites.{Content, Entry, Exit, Simple, Test, Jump, Give, Enter, Missing, Land, Site, Copy}
 use Rattle.flow_laws.specs.Graphs.{copies, graph, edges, loops}
-use Rattle.flow_laws.specs.Paths.{KeepsEach}
+use Rattle.flow_laws.specs.Paths.{KeepsEach, keeps_each}
 
 -- the store, the locals of the callers, innermost first, and the value that was returned
 pub record Memory : Type 0 where
@@ -109,3 +109,46 @@ pub record Drives (p : Program) (i : Input) (q : List ℕ) : Type 0 where
   pub memory : Memory
   pub walks : Walks (graph p) q 0 (start p i) node memory
   pub keeps : KeepsEach (loops (graph p)) q
+
+-- ---- the same, computed
+
+-- before the node is done
+pub record Place : Type 0 where
+  pub node : ℕ
+  pub memory : Memory
+
+abbrev pub place : ℕ → Memory → Place
+place n m = record { node = n; memory = m }
+
+abbrev pub is_way : Way → Way → Bool
+is_way Next Next = true
+is_way True True = true
+is_way False False = true
+is_way _ _ = false
+
+-- behind the edge, if the node is left by its way
+abbrev pub place_behind : Edge → Move → Option Place
+place_behind e Stuck = None
+place_behind e Stays = None
+place_behind e (Goes way m) = if is_way e.way way then Some (place e.to m) else None
+
+abbrev pub move_at : Option Site → Memory → Move
+move_at None m = Stuck
+move_at (Some s) m = act s.content m
+
+-- where an edge leads, if it is there and leaves this node, whose statements are defined, by the end that its guard chooses
+abbrev pub place_after : List Site → Option Edge → Place → Option Place
+place_after g None a = None
+place_after g (Some e) a =
+    if e.from == a.node then place_behind e (move_at (slice_get g a.node) a.memory) else None
+
+abbrev pub place_along : List Site → List ℕ → Place → Option Place
+place_along g [] a = Some a
+place_along g (j ∷ q) a = option_and_then (place_along g q) (place_after g (slice_get (edges g) j) a)
+
+-- where the input leads over the list
+abbrev pub place_of : Program → Input → List ℕ → Option Place
+place_of p i q = place_along (graph p) q (place 0 (start p i))
+
+abbrev pub drives : Program → Input → List ℕ → Bool
+drives p i q = is_some (place_of p i q) && keeps_each (loops (graph p)) q

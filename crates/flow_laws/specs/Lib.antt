@@ -1,5 +1,6 @@
 pub mod Sites
 pub mod Graphs
+pub mod Loops
 pub mod Paths
 pub mod Driving
 pub mod Claims

@@ -1,6 +1,6 @@
 -- Paths as lists of edge numbers: which lists follow the edges, which keep a loop's bound, what they count and what they cost.
 -- This project's own.
-use Rattle.std.specs.Prelude.{◌≡◌, ◌≤◌, ℕ, zero, suc, ◌+◌, ◌*◌, ◌-◌, ◌==◌, ◌&&◌, not, Bool, true, false, if◌then◌else◌, List, [], ◌∷◌, ◌++◌, slice_get, Option, Some, None, is_some}
+use Rattle.std.specs.Prelude.{◌≡◌, ◌≤◌, ℕ, zero, suc, ◌+◌, ◌*◌, ◌-◌, ◌==◌, nat_lt, ◌&&◌, not, Bool, true, false, if◌then◌else◌, List, [], ◌∷◌, ◌++◌, slice_get, Option, Some, None, is_some}
 use Rattle.std.specs.List.{list_all}
 use Rattle.c_tree.specs.declared.program.BlockName.{BlockName}
 use Rattle.c_tree.specs.declared.program.Costs.{Costs}
@@ -25,6 +25,10 @@ led es n (j ∷ q) = led_on n (slice_get es j) (λ m. led es m q)
 -- the list names only edges, and is contiguous from Entry
 abbrev pub follows : List Edge → List ℕ → Bool
 follows es q = is_some (led es 0 q)
+
+-- the number is that of an edge that leaves the node
+abbrev pub IsEdgeFrom : List Edge → ℕ → ℕ → Type 0
+IsEdgeFrom es n j = (e : Edge) × (slice_get es j ≡ Some e) × (e.from ≡ n)
 
 -- it leads from Entry into Exit
 abbrev pub IsPath : List Edge → List ℕ → Type 0
@@ -111,6 +115,36 @@ keeps l q = keeps_from (λ j. is_among j l.into) (λ j. j == l.turn) (most_turns
 abbrev pub keeps_each : List Loop → List ℕ → Bool
 keeps_each [] q = true
 keeps_each (l ∷ ls) q = keeps l q && keeps_each ls q
+
+-- ---- one edge more: the turns that are left of a loop behind a list, none before the loop is first entered
+
+abbrev pub one_less : Option ℕ → Option ℕ
+one_less None = None
+one_less (Some n) = Some (n - 1)
+
+abbrev pub turns_left_on : Loop → ℕ → Option ℕ → Option ℕ
+turns_left_on l j left =
+    if is_among j l.into then Some (most_turns l) else (if j == l.turn then one_less left else left)
+
+abbrev pub turns_left_from : Loop → Option ℕ → List ℕ → Option ℕ
+turns_left_from l left [] = left
+turns_left_from l left (j ∷ q) = turns_left_from l (turns_left_on l j left) q
+
+abbrev pub turns_left : Loop → List ℕ → Option ℕ
+turns_left l q = turns_left_from l None q
+
+abbrev pub has_turn : Option ℕ → Bool
+has_turn None = true
+has_turn (Some n) = nat_lt 0 n
+
+-- with these turns left, the edge keeps the loop's bound
+abbrev pub allows : Loop → ℕ → Option ℕ → Bool
+allows l j left = if is_among j l.into then true else (if j == l.turn then has_turn left else true)
+
+-- behind the list, it keeps the bound of each loop
+abbrev pub each_allows : List Loop → List ℕ → ℕ → Bool
+each_allows [] q j = true
+each_allows (l ∷ ls) q j = allows l j (turns_left l q) && each_allows ls q j
 
 -- ---- costs
 

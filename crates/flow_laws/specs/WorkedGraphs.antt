@@ -1,5 +1,5 @@
 -- Worked graphs. In the text beside a program its loops' bounds stand in brackets.
-use Rattle.std.specs.Prelude.{ℕ, true, false, List, [], ◌∷◌, map, Option, Some, None}
+use Rattle.std.specs.Prelude.{ℕ, true, false, List, [], ◌∷◌, ◌++◌, map, Option, Some, None}
 use Rattle.c_tree.specs.declared.tree.BinOp.TheVariants as bin
 use Rattle.c_tree.specs.declared.tree.Target.TheVariants as target
 use Rattle.c_tree.specs.declared.tree.Expr.TheVariants.{Bin}
@@ -11,6 +11,7 @@ use Rattle.c_tree.specs.Worked.{num, local, sets, counts, declares, returns, fun
 use Rattle.flow_laws.specs.declared.graph.Way.TheVariants.{Next, True, False}
 use Rattle.flow_laws.specs.declared.graph.Edge.{Edge}
 use Rattle.flow_laws.specs.declared.graph.Loop.{Loop}
+use Rattle.flow_laws.specs.Sites.{Content, Land}
 use Rattle.flow_laws.specs.Graphs.{leaves, graph, nodes}
 
 -- ---- parts
@@ -39,6 +40,27 @@ chains_of p = map (λ n. n.chain) (nodes (graph p))
 
 abbrev pub caps_of : Program → List ℕ
 caps_of p = map (λ n. n.cap) (nodes (graph p))
+
+-- the call of each landing
+abbrev pub call_of : Content → Option BlockName
+call_of (Land t ty b) = Some b
+call_of _ = None
+
+abbrev pub calls_of : Program → List (Option BlockName)
+calls_of p = map (λ s. call_of s.content) (graph p)
+
+-- ---- paths of the filter that clamps four samples
+
+-- the first edges, into the loop
+abbrev pub to_the_loop : List ℕ
+to_the_loop = 0 ∷ 1 ∷ 2 ∷ []
+
+-- a turn with a sample that is too low, whose clamp is taken away
+abbrev pub low_turn : List ℕ
+low_turn = 3 ∷ 6 ∷ 8 ∷ 10 ∷ 12 ∷ 14 ∷ 16 ∷ 18 ∷ 20 ∷ 5 ∷ []
+
+abbrev pub four_low_turns : List ℕ
+four_low_turns = to_the_loop ++ (low_turn ++ (low_turn ++ (low_turn ++ low_turn)))
 
 -- ---- straight programs
 

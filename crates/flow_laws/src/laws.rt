@@ -3,4 +3,6 @@
 pub mod counts;
 pub mod edges;
 pub mod graphs;
+pub mod lists;
+pub mod loops;
 pub mod paths;

@@ -1,6 +1,7 @@
-//! How often a driven path takes each edge: what the rows of implicit path enumeration say (Li and Malik).
+//! How often a path takes each edge: what the rows of implicit path enumeration say (Li and Malik). Some of it holds of every path,
+//! and some of every list that is contiguous.
 
-ghost use Rattle.std.specs.Prelude.{[], ◌≡◌, ◌≤◌, ℕ, ◌*◌, List, slice_get, Some};
+ghost use Rattle.std.specs.Prelude.{[], ◌∷◌, ◌≡◌, ◌≤◌, ℕ, ◌+◌, ◌*◌, List, slice_get, Some};
 ghost use Rattle.c_tree.specs.declared.program.Program.{Program};
 ghost use Rattle.c_tree.specs.declared.program.Input.{Input};
 ghost use Rattle.c_tree.specs.declared.program.Costs.{Costs};
@@ -10,7 +11,7 @@ ghost use Rattle.flow_laws.specs.Sites.{Site};
 ghost use Rattle.flow_laws.specs.declared.graph.Edge.{Edge};
 ghost use Rattle.flow_laws.specs.declared.graph.Loop.{Loop};
 ghost use Rattle.flow_laws.specs.Graphs.{graph, edges, loops};
-ghost use Rattle.flow_laws.specs.Paths.{count, total, leaving, arriving, cap_of, most_turns, price, worth, copy_caps};
+ghost use Rattle.flow_laws.specs.Paths.{led, IsPath, count, total, leaving, arriving, cap_of, most_turns, KeepsEach, price, worth, copy_caps};
 ghost use Rattle.flow_laws.specs.Claims.{DrivesPath};
 
 /// A driven path takes each edge at most as often as the cap of the edge's source.
@@ -33,6 +34,36 @@ pub fn counts_are_conserved()
     ensures entry { (p : Program) (i : Input) (q : List ℕ) → WellFormed p → DrivesPath p i q → count q 0 ≡ 1 }
     ensures nodes { (p : Program) (i : Input) (q : List ℕ) → WellFormed p → DrivesPath p i q
         → (n : ℕ) → 2 ≤ n → leaving (edges (graph p)) q n ≡ arriving (edges (graph p)) q n }
+{}
+
+/// A list that leads from a node to a node arrives at each node as often as it leaves it, but for its two ends; so a closed one
+/// arrives at each as often as it leaves it.
+pub fn lists_are_conserved()
+    ensures ends { (es : List Edge) (n m : ℕ) (q : List ℕ) → led es n q ≡ Some m
+        → (x : ℕ) → count (n ∷ []) x + arriving es q x ≡ leaving es q x + count (m ∷ []) x }
+    ensures closed { (es : List Edge) (n : ℕ) (q : List ℕ) → led es n q ≡ Some n → (x : ℕ) → leaving es q x ≡ arriving es q x }
+{}
+
+/// A path, driven or not, takes edge 0 once, and as many of its edges leave a node from 2 on as lead to it.
+pub fn paths_are_conserved()
+    ensures entry { (p : Program) (q : List ℕ) → WellFormed p → IsPath (edges (graph p)) q → count q 0 ≡ 1 }
+    ensures nodes { (p : Program) (q : List ℕ) → IsPath (edges (graph p)) q
+        → (n : ℕ) → 2 ≤ n → leaving (edges (graph p)) q n ≡ arriving (edges (graph p)) q n }
+{}
+
+/// On a path that keeps the bounds of all loops, driven or not, the count of a loop copy's `turn` is at most the loop's bound
+/// times the count of its `into`; of `do` the bound less one.
+pub fn kept_turns_are_bounded()
+    ensures { (p : Program) (q : List ℕ) → IsPath (edges (graph p)) q → KeepsEach (loops (graph p)) q
+        → (k : ℕ) (l : Loop) → slice_get (loops (graph p)) k ≡ Some l
+        → count q l.turn ≤ most_turns l * total q l.into }
+{}
+
+/// A path that keeps the bounds of all loops, driven or not, takes each edge at most as often as the cap of the edge's source.
+pub fn kept_counts_are_within_caps()
+    ensures { (p : Program) (q : List ℕ) → WellFormed p → IsPath (edges (graph p)) q → KeepsEach (loops (graph p)) q
+        → (j : ℕ) (e : Edge) → slice_get (edges (graph p)) j ≡ Some e
+        → count q j ≤ cap_of (slice_get (graph p) e.from) }
 {}
 
 /// The price of a list is the sum of the edges' costs times their counts.

@@ -1,18 +1,31 @@
 //! What edges join, and their numbers.
 
-ghost use Rattle.std.specs.Prelude.{◌≡◌, ◌<◌, ◌≤◌, ℕ, Bool, List, length, slice_get, Some};
+ghost use Rattle.std.specs.Prelude.{◌≡◌, ◌≢◌, ◌<◌, ◌≤◌, ◌+◌, ℕ, Bool, List, length, slice_get, Some};
 ghost use Rattle.c_tree.specs.declared.program.Program.{Program};
 ghost use Rattle.c_tree.specs.WellFormed.{WellFormed};
 ghost use Rattle.flow_laws.specs.declared.graph.Edge.{Edge};
+ghost use Rattle.flow_laws.specs.declared.graph.Way.TheVariants.{True, False};
 ghost use Rattle.flow_laws.specs.Sites.{Site};
 ghost use Rattle.flow_laws.specs.Graphs.{graph, edges};
-ghost use Rattle.flow_laws.specs.Paths.{times};
+ghost use Rattle.flow_laws.specs.Paths.{IsEdgeFrom, times};
 ghost use Rattle.flow_laws.specs.OpenEnds.{joined_edges};
 
 /// No two edges leave one node by one way.
 pub fn edges_are_distinct()
     ensures { (g : List Site) (j k : ℕ) (e d : Edge) → slice_get (edges g) j ≡ Some e → slice_get (edges g) k ≡ Some d
         → e.from ≡ d.from → e.way ≡ d.way → j ≡ k }
+{}
+
+/// Of two edges that leave one node, one is `True` and the other `False`, and `True` has the number before.
+pub fn edges_beside_each_other()
+    ensures { (g : List Site) (j k : ℕ) (e d : Edge) → slice_get (edges g) j ≡ Some e → slice_get (edges g) k ≡ Some d
+        → e.from ≡ d.from → j < k → (e.way ≡ True) × (d.way ≡ False) × (k ≡ j + 1) }
+{}
+
+/// Each node but Exit is left by an edge, and Exit by none.
+pub fn nodes_are_left()
+    ensures by_an_edge { (p : Program) (n : ℕ) → n < length (graph p) → n ≢ 1 → (j : ℕ) × IsEdgeFrom (edges (graph p)) n j }
+    ensures exit { (p : Program) (j : ℕ) → IsEdgeFrom (edges (graph p)) 1 j → ⊥ }
 {}
 
 /// In the graph of a well-formed program each edge leaves a node and leads to a node other than Entry.

@@ -1,14 +1,17 @@
 //! Worked graphs: their edges, nodes and loop copies.
 
-ghost use Rattle.std.specs.Prelude.{◌≡◌, Some, None, [], ◌∷◌, true, false};
+ghost use Rattle.std.specs.Prelude.{◌≡◌, Some, None, [], ◌∷◌, ◌++◌, true, false, pos, slice_get};
 ghost use Rattle.c_tree.specs.declared.tree.Ty.TheVariants as ty;
 ghost use Rattle.c_tree.specs.declared.tree.Target.TheVariants as target;
 ghost use Rattle.c_tree.specs.declared.tree.Stmt.TheVariants.{Call};
 ghost use Rattle.c_tree.specs.Statements.{block};
 ghost use Rattle.c_tree.specs.Worked.{two_thresholds, two_thresholds_costs, overflow_guard, triangular_loops, local, initialised_by_call, missing_result};
-ghost use Rattle.flow_laws.specs.Graphs.{graph, edges, loops};
-ghost use Rattle.flow_laws.specs.Paths.{led, follows, count, price, edge_cost, keeps};
-ghost use Rattle.flow_laws.specs.WorkedGraphs.{next, when, unless, loop, do_loop, blocks_of, chains_of, caps_of};
+ghost use Rattle.c_tree.specs.Worked.{clamp_filter, samples, input};
+ghost use Rattle.flow_laws.specs.Graphs.{graph, edges, loop_copies, loops};
+ghost use Rattle.flow_laws.specs.Paths.{led, follows, count, price, edge_cost, keeps, turns_left, allows, each_allows};
+ghost use Rattle.flow_laws.specs.Driving.{drives};
+ghost use Rattle.flow_laws.specs.Claims.{IsDrivenList};
+ghost use Rattle.flow_laws.specs.WorkedGraphs.{next, when, unless, loop, do_loop, blocks_of, chains_of, caps_of, calls_of, to_the_loop, low_turn, four_low_turns};
 ghost use Rattle.flow_laws.specs.WorkedGraphs.{empty_main, groups_and_rest, empty_for, empty_while, empty_do, nested_do};
 ghost use Rattle.flow_laws.specs.WorkedGraphs.{jumps_in_while, jumps_in_do, jumps_in_for, jumps_without_step, end_is_reached, nested_calls};
 
@@ -88,6 +91,7 @@ pub fn calls()
     ensures blocks { blocks_of (initialised_by_call (local 0)) ≡ None ∷ None ∷ Some (block 1 0) ∷ Some (block 1 1)
         ∷ Some (block 0 0) ∷ None ∷ Some (block 1 2) ∷ Some (block 1 3) ∷ [] }
     ensures chains { chains_of (initialised_by_call (local 0)) ≡ [] ∷ [] ∷ [] ∷ [] ∷ (block 1 1 ∷ []) ∷ [] ∷ [] ∷ [] ∷ [] }
+    ensures landing { calls_of (initialised_by_call (local 0)) ≡ None ∷ None ∷ None ∷ None ∷ None ∷ Some (block 1 1) ∷ None ∷ None ∷ [] }
     ensures caps { caps_of (initialised_by_call (local 0)) ≡ 1 ∷ 1 ∷ 3 ∷ 2 ∷ 2 ∷ 2 ∷ 2 ∷ 1 ∷ [] }
     ensures end { edges (graph end_is_reached) ≡ next 0 2 ∷ next 2 3 ∷ next 3 4 ∷ when 4 5 ∷ unless 4 6 ∷ next 5 6 ∷ next 6 7
         ∷ next 7 1 ∷ [] }
@@ -97,4 +101,39 @@ pub fn calls()
     ensures nested_chains { chains_of nested_calls ≡ [] ∷ [] ∷ [] ∷ [] ∷ (block 2 1 ∷ []) ∷ (block 2 1 ∷ block 1 0 ∷ [])
         ∷ (block 2 1 ∷ []) ∷ (block 2 1 ∷ []) ∷ [] ∷ [] ∷ [] }
     ensures nested_caps { caps_of nested_calls ≡ 1 ∷ 1 ∷ 5 ∷ 4 ∷ 4 ∷ 4 ∷ 4 ∷ 4 ∷ 4 ∷ 1 ∷ [] }
+{}
+
+/// The filter that clamps four samples: a call in a loop, its landing, and what is left of the loop's four turns. Four turns are
+/// within its bound, and no fifth is allowed.
+pub fn filter()
+    ensures edges { edges (graph clamp_filter) ≡ next 0 2 ∷ next 2 3 ∷ next 3 4 ∷ when 4 6 ∷ unless 4 17 ∷ next 5 4 ∷ next 6 7 ∷ when 7 8
+        ∷ unless 7 9 ∷ next 8 12 ∷ when 9 10 ∷ unless 9 11 ∷ next 10 12 ∷ next 11 12 ∷ next 12 13 ∷ when 13 14 ∷ unless 13 15
+        ∷ next 14 15 ∷ when 15 16 ∷ unless 15 5 ∷ next 16 5 ∷ next 17 1 ∷ [] }
+    ensures loops { loops (graph clamp_filter) ≡ loop 4 (2 ∷ []) 3 ∷ [] }
+    ensures copies { loop_copies (graph clamp_filter) ≡ record { from = 4; past = 17; test = 4; bound = 4; at_end = false } ∷ [] }
+    ensures landing { slice_get (calls_of clamp_filter) 12 ≡ Some (Some (block 1 4)) }
+    ensures caps { caps_of clamp_filter ≡ 1 ∷ 1 ∷ 1 ∷ 1 ∷ 5 ∷ 4 ∷ 4 ∷ 4 ∷ 4 ∷ 4 ∷ 4 ∷ 4 ∷ 4 ∷ 4 ∷ 4 ∷ 4 ∷ 4 ∷ 1 ∷ [] }
+    ensures none_left { turns_left (loop 4 (2 ∷ []) 3) (0 ∷ 1 ∷ []) ≡ None }
+    ensures all_left { turns_left (loop 4 (2 ∷ []) 3) to_the_loop ≡ Some 4 }
+    ensures three_left { turns_left (loop 4 (2 ∷ []) 3) (to_the_loop ++ low_turn) ≡ Some 3 }
+    ensures no_more { turns_left (loop 4 (2 ∷ []) 3) four_low_turns ≡ Some 0 }
+    ensures fourth { each_allows (loops (graph clamp_filter)) (to_the_loop ++ (low_turn ++ (low_turn ++ low_turn))) 3 ≡ true }
+    ensures fifth { each_allows (loops (graph clamp_filter)) four_low_turns 3 ≡ false }
+    ensures leaves { each_allows (loops (graph clamp_filter)) four_low_turns 4 ≡ true }
+    ensures enters_again { allows (loop 4 (2 ∷ []) 3) 2 (Some 0) ≡ true }
+    ensures counted { count four_low_turns 3 ≡ 4 }
+{}
+
+/// Which lists inputs drive. Of two choices, 11 takes the first and not the second; a path, its beginnings, a guard that does not
+/// hold, and a list that is not contiguous. Of the filter, four low samples with mode 2, and a turn too few.
+pub fn driven_by_inputs()
+    ensures path { drives two_thresholds (input (pos 11 ∷ [])) (0 ∷ 1 ∷ 2 ∷ 4 ∷ 6 ∷ 8 ∷ []) ≡ true }
+    ensures none { drives two_thresholds (input (pos 11 ∷ [])) [] ≡ true }
+    ensures begin { drives two_thresholds (input (pos 11 ∷ [])) (0 ∷ 1 ∷ 2 ∷ []) ≡ true }
+    ensures guard { drives two_thresholds (input (pos 11 ∷ [])) (0 ∷ 1 ∷ 3 ∷ []) ≡ false }
+    ensures not_contiguous { drives two_thresholds (input (pos 11 ∷ [])) (0 ∷ 2 ∷ []) ≡ false }
+    ensures both { IsDrivenList two_thresholds (0 ∷ 1 ∷ 2 ∷ []) }
+    ensures filter { drives clamp_filter (input (samples 200 2)) (four_low_turns ++ (4 ∷ 21 ∷ [])) ≡ true }
+    ensures too_few { drives clamp_filter (input (samples 200 2)) (to_the_loop ++ (low_turn ++ (4 ∷ 21 ∷ []))) ≡ false }
+    ensures other_mode { drives clamp_filter (input (samples 200 1)) (to_the_loop ++ low_turn) ≡ false }
 {}

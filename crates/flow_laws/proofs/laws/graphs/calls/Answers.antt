@@ -1,4 +1,5 @@
 use Rattle.flow_laws.proofs.laws.graphs.calls.Goals as goal
+use Rattle.flow_laws.proofs.WorkedDriving.{calls-landing}
 use Rattle.flow_laws.proofs.WorkedGraphs.{calls-edges, calls-blocks, calls-chains, calls-caps, calls-end, calls-none, calls-nested, calls-nested_chains, calls-nested_caps}
 
 pub returns-clause-edges : goal.returns-clause-edges
@@ -27,3 +28,6 @@ returns-clause-nested_chains c = calls-nested_chains
 
 pub returns-clause-nested_caps : goal.returns-clause-nested_caps
 returns-clause-nested_caps c = calls-nested_caps
+
+pub returns-clause-landing : goal.returns-clause-landing
+returns-clause-landing c = calls-landing
