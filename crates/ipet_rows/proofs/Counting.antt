@@ -10,7 +10,7 @@ use Rattle.flow_laws.specs.Sites.{Site}
 use Rattle.flow_laws.specs.Graphs.{graph, edges, loops}
 use Rattle.flow_laws.specs.Paths.{IsPath, KeepsEach, count, cost_of_edge, price, worth_of}
 use Rattle.flow_laws.specs.Claims.{IsDriven}
-use Rattle.flow_laws.proofs.Formed.{capped}
+use Rattle.flow_laws.proofs.KeptCaps.{kept_capped}
 use Rattle.flow_laws.proofs.Totals.{price_by_counts}
 use Rattle.lin_rows.specs.declared.count_box.CountBox.{CountBox}
 use Rattle.lin_rows.specs.Vectors.{cost_by}
@@ -23,9 +23,6 @@ use Rattle.ipet_rows.proofs.PathCounts.{kept_met}
 counts_long : (q : List ℕ) (i : ℕ) (es : List Edge) → length (counts_from q i es) ≡ length es
 counts_long q i [] = refl
 counts_long q i (e ∷ es) = ap suc (counts_long q (i + 1) es)
-
-pub kept_rows_met : (p : Program) (q : List ℕ) → WellFormed p → IsPath (edges (graph p)) q → KeepsEach (loops (graph p)) q → MeetFlowRows (graph p) (counts p q)
-kept_rows_met p q w path kept = record { long = counts_long q 0 (edges (graph p)); met = kept_met p q w path kept }
 
 cost_is : (t : Costs) (g : List Site) (q : List ℕ) (i : ℕ) (es : List Edge) → cost_by (costs_of_edges t g es) (counts_from q i es) ≡ worth_of t g q i es
 cost_is t g q i [] = refl
@@ -42,17 +39,20 @@ within_caps g q i (e ∷ es) h =
     later : (j : ℕ) → i + suc j ≡ i + 1 + j
     later j = omega arith
 
-pub counted : (p : Program) (t : Costs) (within : CountBox) (q : List ℕ) → WellFormed p → within.limits ≡ caps_of_edges (graph p) (edges (graph p)) → IsDriven p q → IsCounted p t within q
-counted p t within q w limits (i, _, d) =
+pub kept_counted : (p : Program) (t : Costs) (within : CountBox) (q : List ℕ) → WellFormed p → within.limits ≡ caps_of_edges (graph p) (edges (graph p)) → IsPath (edges (graph p)) q → KeepsEach (loops (graph p)) q → IsCounted p t within q
+kept_counted p t within q w limits path kept =
     let g = graph p in
     record {
-      boxed = subst (λ (ls : List (ℕ × ℕ)). AllZip (λ limit n. (limit.0 ≤ n) × (n ≤ limit.1)) ls (counts p q)) (sym limits) (within_caps g q 0 (edges g) (λ j e is. subst (λ k. count q k ≤ cap_of_edge g e) (same j) (capped p i q w d j e is)));
-      met = kept_rows_met p q w d.path d.drives.keeps;
+      boxed = subst (λ (ls : List (ℕ × ℕ)). AllZip (λ limit n. (limit.0 ≤ n) × (n ≤ limit.1)) ls (counts p q)) (sym limits) (within_caps g q 0 (edges g) (λ j e is. subst (λ k. count q k ≤ cap_of_edge g e) (same j) (kept_capped p q w path kept j e is)));
+      met = record { long = counts_long q 0 (edges g); met = kept_met p q w path kept };
       priced = cost_is t g q 0 (edges g) ∙ sym (price_by_counts t g q);
     }
   where
     same : (j : ℕ) → j ≡ 0 + j
     same j = omega arith
+
+pub driven_counted : (p : Program) (t : Costs) (within : CountBox) (q : List ℕ) → WellFormed p → within.limits ≡ caps_of_edges (graph p) (edges (graph p)) → IsDriven p q → IsCounted p t within q
+driven_counted p t within q w limits (i, _, d) = kept_counted p t within q w limits d.path d.drives.keeps
 
 pub one_number : (p : Program) (t : Costs) (m n : ℕ) → IpetOptimum p t m → IpetOptimum p t n → m ≡ n
 one_number p t m n a b =

@@ -18,9 +18,9 @@ ghost use Rattle.c_tree.specs.Worked.{ones, two_thresholds, two_thresholds_costs
 ghost use Rattle.flow_laws.specs.WorkedGraphs.{empty_do};
 ghost use Rattle.ipet_rows.specs.Worked.{plus, minus, equal, at_most, once_do};
 ghost use Rattle.ipet_rows.specs.FlowRows.{flow_rows};
-ghost use Rattle.ipet_rows.specs.Counts.{counts, HoldOnPaths};
+ghost use Rattle.ipet_rows.specs.Counts.{HoldOnPaths};
 ghost use Rattle.ipet_rows.specs.Counted.{IsCounted};
-ghost use Rattle.ipet_rows.specs.Optimum.{MeetFlowRows, IpetOptimum};
+ghost use Rattle.ipet_rows.specs.Optimum.{IpetOptimum};
 ghost use Rattle.ipet_rows.specs.CapsBound.{caps_bound, caps_of_edges, AreSmall};
 
 /// The counts of each driven path of a well-formed program meet every row of its graph.
@@ -28,13 +28,15 @@ pub fn path_counts_meet_rows()
     ensures { (p : Program) → WellFormed p → HoldOnPaths p (flow_rows (graph p)) }
 {}
 
-/// The counts of a path that keeps the bounds of all loops meet every row, whether an input drives it or not.
-pub fn kept_paths_meet_rows()
-    ensures { (p : Program) (q : List ℕ) → WellFormed p → IsPath (edges (graph p)) q → KeepsEach (loops (graph p)) q
-        → MeetFlowRows (graph p) (counts p q) }
+/// The counts of a path that keeps the bounds of all loops lie in the box from 0 to the caps, meet every row, and cost what the
+/// path does, whether an input drives it or not.
+pub fn kept_paths_are_counted()
+    ensures { (p : Program) (t : Costs) (within : CountBox) (q : List ℕ) → WellFormed p
+        → within.limits ≡ caps_of_edges (graph p) (edges (graph p)) → IsPath (edges (graph p)) q → KeepsEach (loops (graph p)) q
+        → IsCounted p t within q }
 {}
 
-/// The counts of a driven path lie in the box from 0 to the caps, meet every row, and cost what the path does.
+/// So do those of a driven path.
 pub fn driven_paths_are_counted()
     ensures { (p : Program) (t : Costs) (within : CountBox) (q : List ℕ) → WellFormed p
         → within.limits ≡ caps_of_edges (graph p) (edges (graph p)) → IsDriven p q → IsCounted p t within q }

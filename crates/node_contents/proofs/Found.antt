@@ -17,7 +17,7 @@ use Rattle.flow_laws.specs.Graphs.{copies, copy_of, sites_of, graph, all_to, out
 use Rattle.flow_graph.specs.Spots.{call_of}
 use Rattle.flow_graph.proofs.Measured.{entered}
 use Rattle.node_contents.specs.Pieces.{Piece, Run, Asks, Jumps, Gives, Calls, run_piece, pieces, row_pieces, held_pieces, list_pieces, func_pieces, piece_in, piece_at}
-use Rattle.node_contents.specs.Contents.{plain as loopless, entered as called, block_content, result_in, landed, landing_content, bare_content}
+use Rattle.node_contents.specs.Contents.{plain as loopless, entered as called, block_content, result_in, landed, landing_content, bare_content, Told}
 
 -- the blocks of a function of the program
 abbrev pieces_in : Option Func → List Piece
@@ -378,11 +378,6 @@ all_copies p = copies_found p [] p.funcs tt (record { each = λ j f is. ap (slic
     plain_sum j = omega arith
 
 -- ---- nodes
-
--- what the node number n does is told by its block, and where it has none, by its number and by the block of its call
-pub record Told (p : Program) (n : ℕ) (s : Site) : Type 0 where
-  pub named : (b : BlockName) → s.node.block ≡ Some b → loopless s.content ≡ block_content p b.func (piece_at p b.func b.number)
-  pub bare : s.node.block ≡ None → loopless s.content ≡ bare_content p n (call_of s.content)
 
 named_by : (p : Program) (s : Site) (b : BlockName) → Found p s → s.node.block ≡ Some b → loopless s.content ≡ block_content p b.func (piece_at p b.func b.number)
 named_by p s b f is = f.named b.func b.number is ∙ ap (block_content p b.func) (sym (piece_is (slice_get p.funcs b.func) b.number))

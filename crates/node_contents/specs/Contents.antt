@@ -7,6 +7,7 @@ use Rattle.c_tree.specs.declared.program.BlockName.{BlockName}
 use Rattle.c_tree.specs.declared.program.Func.{Func}
 use Rattle.c_tree.specs.declared.program.Program.{Program}
 use Rattle.flow_laws.specs.Sites.{Content, Entry, Exit, Simple, Test, Jump, Give, Enter, Missing, Land, Site}
+use Rattle.flow_graph.specs.Spots.{call_of}
 use Rattle.node_contents.specs.declared.block.Block.{Block}
 use Rattle.node_contents.specs.declared.block.Content.TheVariants as lent
 use Rattle.node_contents.specs.declared.block.Content as node
@@ -79,3 +80,8 @@ bare_content p (suc (suc n)) c = landing_content p c
 
 pub record AreBlocks (p : Program) (all : List (List Block)) : Type 0 where
   pub blocks_are : what_of all ≡ map func_pieces p.funcs
+
+-- what the node number n does is told by its block, and where it has none, by its number and by the block of its call
+pub record Told (p : Program) (n : ℕ) (s : Site) : Type 0 where
+  pub named : (b : BlockName) → s.node.block ≡ Some b → plain s.content ≡ block_content p b.func (piece_at p b.func b.number)
+  pub bare : s.node.block ≡ None → plain s.content ≡ bare_content p n (call_of s.content)

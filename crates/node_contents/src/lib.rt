@@ -8,4 +8,4 @@ mod law;
 
 pub use block::Content;
 pub use contents::{Contents, contents};
-pub use law::acting_needs_no_loop;
+pub use law::{acting_needs_no_loop, blocks_are_found};
