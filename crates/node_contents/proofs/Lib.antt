@@ -2,4 +2,5 @@ pub mod PieceLayers
 mod Gathered
 pub mod Found
 mod Tabled
+mod Telling
 mod Acting

@@ -3,9 +3,10 @@ use Rattle.std.proofs.Common.{◌≡◌, ◌<◌, ℕ, zero, suc, ◌+◌, List,
 use Rattle.std.specs.Prelude.{slice_get, map}
 use Rattle.std.proofs.lemmas.List.{map-append}
 use Rattle.c_tree.specs.declared.program.Func.{Func}
+use Rattle.c_tree.specs.declared.program.Program.{Program}
 use Rattle.flow_graph.proofs.Sums.{drop_is}
 use Rattle.node_contents.specs.declared.block.Block.{Block}
-use Rattle.node_contents.specs.Pieces.{Piece, what, what_of, func_pieces, piece_in}
+use Rattle.node_contents.specs.Pieces.{Piece, what, what_of, func_pieces, piece_in, piece_at}
 
 -- with one function more
 pub func_step : (funcs : List Func) (i : ℕ) (f : Func) (old new : List (List Block)) (bs : List Block) (whole : List (List Piece)) → i < length funcs → f ≡ get_or funcs i f → new ≡ old ++ bs ∷ [] → map what bs ≡ func_pieces f → what_of old ++ map func_pieces (drop i funcs) ≡ whole
@@ -35,3 +36,6 @@ row_at (f ∷ funcs) (cs ∷ all) bs zero m h is =
     let first : map what cs ≡ func_pieces f = cc in
     sym (map_at bs m) ∙ ap (λ y. slice_get (map what y) m) (sym same) ∙ ap (λ ps. slice_get ps m) first
 row_at (f ∷ funcs) (cs ∷ all) bs (suc k) m h is = let rest : what_of all ≡ map func_pieces funcs = cc in row_at funcs all bs k m rest is
+
+pub block_is : (p : Program) (all : List (List Block)) (k m : ℕ) (bs : List Block) (o : Option Block) → what_of all ≡ map func_pieces p.funcs → slice_get all k ≡ Some bs → o ≡ slice_get bs m → option_map what o ≡ piece_at p k m
+block_is p all k m bs o h is e = ap (option_map what) e ∙ row_at p.funcs all bs k m h is

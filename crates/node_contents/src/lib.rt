@@ -2,10 +2,10 @@
 #![tactic(auto)]
 
 mod block;
-mod contents;
+mod table;
 mod gathering;
 mod law;
 
 pub use block::Content;
-pub use contents::{Contents, contents};
+pub use table::{Contents, contents_of};
 pub use law::{acting_needs_no_loop, blocks_are_found};

@@ -6,7 +6,7 @@ ghost use Rattle.c_tree.specs.declared.program.BlockName as spec;
 ghost use Rattle.flow_laws.specs.Graphs.{graph};
 ghost use Rattle.node_contents.specs.Contents.{content_of, contents, block_content, bare_content, landing_content, entered, result_in};
 ghost use Rattle.node_contents.specs.Pieces.{what, piece_at};
-ghost use Rattle.flow_graph.specs.Spots.{calls};
+ghost use Rattle.flow_graph.specs.Landings.{calls};
 
 use crate::block::{Block, Content};
 use crate::gathering::blocks_of;
@@ -41,7 +41,7 @@ impl<'p> Model for Contents<'p> {
 }
 
 /// What the nodes of the plan do; its time is linear in the program.
-pub fn contents<'p>(alloc: Global, plan: &'p Plan) -> Result<Contents<'p>, NoMemory>
+pub fn contents_of<'p>(alloc: Global, plan: &'p Plan) -> Result<Contents<'p>, NoMemory>
     ensures { IfOk result (λ c. c ≡ plan.now) }
 {
     let blocks = blocks_of(alloc, plan.program().funcs.as_slice())?;
@@ -54,6 +54,8 @@ impl<'p> Contents<'p> {
         requires { n < length (graph self.now.program) }
         ensures { slice_get (contents (graph self.now.program)) n ≡ Some (content_of result) }
     {
+        // The program is well-formed.
+        self.plan.program();
         match self.plan.node(n).block {
             Some(block) => self.of_block(block),
             None => self.of_bare(n),
@@ -64,8 +66,8 @@ impl<'p> Contents<'p> {
     fn block(&self, name: BlockName) -> Option<Block<'p>>
         ensures { option_map what result ≡ piece_at self.now.program name.func name.number }
     {
-        let blocks = self.blocks.as_slice().get(name.func as usize)?;
-        blocks.as_slice().get(name.number as usize).copied()
+        let blocks = self.blocks.get(name.func as usize)?;
+        blocks.get(name.number as usize).copied()
     }
 
     // The function of a number.
