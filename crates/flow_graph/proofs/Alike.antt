@@ -17,7 +17,7 @@ use Rattle.flow_laws.specs.Sites.{Position, times_as_often, Content, Simple, Cop
 use Rattle.flow_laws.specs.Graphs.{all_to, copy_of, copies}
 use Rattle.flow_laws.proofs.Copies.{row_flows}
 use Rattle.flow_graph.specs.Amounts.{kept}
-use Rattle.flow_graph.specs.Spots.{ends_of, test_ends, spot_of, spots}
+use Rattle.flow_graph.specs.Spots.{call_of, ends_of, test_ends, spot_of, spots}
 
 -- ---- scales
 
@@ -56,10 +56,10 @@ join_alike : (p q p' q' : List Site) → spots p ≡ spots p' → spots q ≡ sp
 join_alike p q p' q' h k = map-append spot_of p q ∙ (λ i. h i ++ k i) ∙ sym (map-append spot_of p' q')
 
 one_alike : (w : Position) (s : ℕ) (c : Content) (b : Option BlockName) (t : ℕ) → kept w.scale ≡ kept s → spot_of (one w c b t) ≡ spot_of (one (at_scale w s) c b t)
-one_alike w s c b t e = λ i. record { node = record { block = b; chain = w.chain; cap = e i }; ends = ends_of c; yes = t; no = t }
+one_alike w s c b t e = λ i. record { node = record { block = b; chain = w.chain; cap = e i }; call = call_of c; ends = ends_of c; yes = t; no = t }
 
 asks_alike : (w : Position) (s : ℕ) (l : Option LoopCopy) (e : Expr) (b : BlockName) (t u : ℕ) → kept w.scale ≡ kept s → spot_of (asks w l e b t u) ≡ spot_of (asks (at_scale w s) l e b t u)
-asks_alike w s l e b t u h = λ i. record { node = record { block = Some b; chain = w.chain; cap = h i }; ends = test_ends l; yes = t; no = u }
+asks_alike w s l e b t u h = λ i. record { node = record { block = Some b; chain = w.chain; cap = h i }; call = None; ends = test_ends l; yes = t; no = u }
 
 flush_alike : (w : Position) (s : ℕ) (ss : List Stmt) (b : BlockName) (t : ℕ) → kept w.scale ≡ kept s → spots (flush w ss b t) ≡ spots (flush (at_scale w s) ss b t)
 flush_alike w s [] b t e = refl

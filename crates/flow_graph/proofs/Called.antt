@@ -59,7 +59,7 @@ copy_is o c chain s n e h =
 
 -- the call's node, the callee's copy and the landing
 call_spots : (funcs : List Func) (f g : ℕ) (chain : List BlockName) (scale b n next : ℕ) (c : Copy) (t : Target) (es : List Expr) → slice_get (copies_above funcs f) g ≡ Some c → n + suc (suc c.size) < 2 ^ 32
-    → spot_at (place f chain scale) b ends.Once (head c.size (n + 1) (n + 1 + c.size)) (head c.size (n + 1) (n + 1 + c.size)) ∷ (copy_spots (slice_get (copies [] funcs) g) (chain ++ block f b ∷ []) (kept scale) (n + 1) ++ landing_at (place f chain scale) next ∷ []) ≡ spots (call_sites (place f chain scale) (Some c) t es (block f b) n next)
+    → spot_at (place f chain scale) b ends.Once (head c.size (n + 1) (n + 1 + c.size)) (head c.size (n + 1) (n + 1 + c.size)) ∷ (copy_spots (slice_get (copies [] funcs) g) (chain ++ block f b ∷ []) (kept scale) (n + 1) ++ landing_at (place f chain scale) (Some (block f b)) next ∷ []) ≡ spots (call_sites (place f chain scale) (Some c) t es (block f b) n next)
 call_spots funcs f g chain scale b n next c t es e h =
     let inner = chain ++ block f b ∷ [] in
     let landing = n + 1 + c.size in
@@ -69,7 +69,7 @@ call_spots funcs f g chain scale b n next c t es e h =
     (λ i. first ∷ (copy i ++ spot_of land ∷ [])) ∙ ap (λ y. first ∷ y) (sym (map-append spot_of (c.sites inner scale (n + 1) landing) (land ∷ [])))
 
 pub called : (funcs : List Func) (f g : ℕ) (chain : List BlockName) (scale b n next d : ℕ) (old mid new : List Item) (enter last : Spot) (name : BlockName) (first : ℕ) (t : Target) (es : List Expr) → Known (slice_get (copies_above funcs f) g) d → n + call_size (slice_get (copies_above funcs f) g) < 2 ^ 32
-    → mid ≡ old ++ item.Call enter name g first ∷ [] → new ≡ mid ++ item.One last ∷ [] → enter ≡ spot_at (place f chain scale) b ends.Once (head d (n + 1) (n + 1 + d)) (head d (n + 1) (n + 1 + d)) → name ≡ block f b → first ≡ n + 1 → last ≡ landing_at (place f chain scale) next
+    → mid ≡ old ++ item.Call enter name g first ∷ [] → new ≡ mid ++ item.One last ∷ [] → enter ≡ spot_at (place f chain scale) b ends.Once (head d (n + 1) (n + 1 + d)) (head d (n + 1) (n + 1 + d)) → name ≡ block f b → first ≡ n + 1 → last ≡ landing_at (place f chain scale) (Some name) next
     → laid_out (copies [] funcs) new ≡ laid_out (copies [] funcs) old ++ spots (call_sites (place f chain scale) (slice_get (copies_above funcs f) g) t es (block f b) n next)
 called funcs f g chain scale b n next d old mid new enter last name first t es k h e1 e2 is_enter is_name is_first is_last =
     let c = k.copy in
@@ -78,14 +78,15 @@ called funcs f g chain scale b n next d old mid new enter last name first t es k
     let room_c : n + suc (suc c.size) < 2 ^ 32 = (let e : call_size o ≡ suc (suc c.size) = ap call_size k.is in omega (arith, e, h)) in
     let node = λ (s : ℕ). spot_at (place f chain scale) b ends.Once (head s (n + 1) (n + 1 + s)) (head s (n + 1) (n + 1 + s)) in
     let copy = λ (s : ℕ). node s ∷ copy_spots (slice_get all g) (chain ++ block f b ∷ []) (kept scale) (n + 1) in
+    let land = landing_at (place f chain scale) (Some (block f b)) next in
     let made : laid_out all mid ≡ laid_out all old ++ copy c.size = ap (laid_out all) e1 ∙ laid_last all old (item.Call enter name g first) ∙ (λ i. laid_out all old ++ (is_enter i ∷ copy_spots (slice_get all g) ((is_enter i).node.chain ++ is_name i ∷ []) (is_enter i).node.cap (is_first i))) ∙ ap (λ s. laid_out all old ++ copy s) k.size in
-    laid_one all mid new last (landing_at (place f chain scale) next) e2 is_last ∙ ap (λ y. y ++ landing_at (place f chain scale) next ∷ []) made ∙ append_assoc (laid_out all old) (copy c.size) (landing_at (place f chain scale) next ∷ []) ∙ ap (λ y. laid_out all old ++ y) (call_spots funcs f g chain scale b n next c t es k.is room_c ∙ ap (λ x. spots (call_sites (place f chain scale) x t es (block f b) n next)) (sym k.is))
+    laid_one all mid new last land e2 (is_last ∙ ap (λ (x : BlockName). landing_at (place f chain scale) (Some x) next) is_name) ∙ ap (λ y. y ++ land ∷ []) made ∙ append_assoc (laid_out all old) (copy c.size) (land ∷ []) ∙ ap (λ y. laid_out all old ++ y) (call_spots funcs f g chain scale b n next c t es k.is room_c ∙ ap (λ x. spots (call_sites (place f chain scale) x t es (block f b) n next)) (sym k.is))
 
 pub missed : (funcs : List Func) (f g : ℕ) (chain : List BlockName) (scale b n next : ℕ) (old mid new : List Item) (last : Spot) (t : Target) (es : List Expr) → slice_get (copies_above funcs f) g ≡ None
-    → laid_out (copies [] funcs) mid ≡ laid_out (copies [] funcs) old ++ spot_at (place f chain scale) b ends.Once (n + 1) (n + 1) ∷ [] → new ≡ mid ++ item.One last ∷ [] → last ≡ landing_at (place f chain scale) next
+    → laid_out (copies [] funcs) mid ≡ laid_out (copies [] funcs) old ++ spot_at (place f chain scale) b ends.Once (n + 1) (n + 1) ∷ [] → new ≡ mid ++ item.One last ∷ [] → last ≡ landing_at (place f chain scale) None next
     → laid_out (copies [] funcs) new ≡ laid_out (copies [] funcs) old ++ spots (call_sites (place f chain scale) (slice_get (copies_above funcs f) g) t es (block f b) n next)
 missed funcs f g chain scale b n next old mid new last t es none made e is_last =
     let all = copies [] funcs in
-    let land = landing_at (place f chain scale) next in
+    let land = landing_at (place f chain scale) None next in
     let node = spot_at (place f chain scale) b ends.Once (n + 1) (n + 1) in
     laid_one all mid new last land e is_last ∙ ap (λ y. y ++ land ∷ []) made ∙ append_assoc (laid_out all old) (node ∷ []) (land ∷ []) ∙ ap (λ x. laid_out all old ++ spots (call_sites (place f chain scale) x t es (block f b) n next)) (sym none)

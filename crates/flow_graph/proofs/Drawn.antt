@@ -22,7 +22,7 @@ use Rattle.flow_graph.proofs.Sums.{drop_is}
 
 -- ---- edges
 
-outs_are : (n : ℕ) (c : Content) (s : Site) → s.content ≡ c → outs n s c ≡ spot_outs n (ends_of c) s.yes s.no
+pub outs_are : (n : ℕ) (c : Content) (s : Site) → s.content ≡ c → outs n s c ≡ spot_outs n (ends_of c) s.yes s.no
 outs_are n Exit s e = refl
 outs_are n (Test None x) s e = refl
 outs_are n (Test (Some l) x) s e = refl
@@ -49,7 +49,7 @@ edge_step xs i x old new whole lt e h k =
 
 -- ---- loops
 
-outs_long : (n m : ℕ) (e : Ends) (t u : ℕ) → length (spot_outs n e t u) ≡ length (spot_outs m e t u)
+pub outs_long : (n m : ℕ) (e : Ends) (t u : ℕ) → length (spot_outs n e t u) ≡ length (spot_outs m e t u)
 outs_long n m ends.Never t u = refl
 outs_long n m ends.Once t u = refl
 outs_long n m ends.Choice t u = refl

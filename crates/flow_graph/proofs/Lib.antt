@@ -12,5 +12,7 @@ pub mod Called
 pub mod Parts
 pub mod Unfolded
 pub mod Drawn
+pub mod Leaving
+pub mod Landed
 pub mod Measured
 pub mod Worked

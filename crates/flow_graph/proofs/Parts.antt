@@ -1,5 +1,5 @@
 -- Choices and loops, as they are laid out.
-use Rattle.std.proofs.Common.{◌≡◌, ℕ, ◌+◌, ◌-◌, ◌*◌, ◌^◌, min, true, false, List, [], ◌∷◌, ◌++◌, take, Option, Some, refl, sym, ap, ◌∙◌, arith, append_assoc}
+use Rattle.std.proofs.Common.{◌≡◌, ℕ, ◌+◌, ◌-◌, ◌*◌, ◌^◌, min, true, false, List, [], ◌∷◌, ◌++◌, take, Option, Some, refl, sym, ap, ◌∙◌, arith, append_assoc, None}
 use Rattle.std.proofs.lemmas.List.{map-append}
 use Rattle.c_tree.specs.declared.tree.Expr.{Expr}
 use Rattle.c_tree.specs.declared.tree.Stmt.{Stmt}
@@ -43,7 +43,7 @@ module _ (funcs : List Func) (f : ℕ) (chain : List BlockName) where
 
   test_is : (s l s' b b' : ℕ) (o : Option LoopCopy) (tn : Turn) (e : Expr) (t t' u : ℕ) → s' ≡ kept (s * l) → b' ≡ b → ends.Loop tn ≡ test_ends o → t' ≡ t → spot_at (place f chain s') b' (ends.Loop tn) t' u ≡ spot_of (asks (times_as_often (place f chain s) l) o e (block f b) t u)
   test_is s l s' b b' o tn e t t' u hs hb ho ht =
-      λ i. record { node = record { block = Some (block f (hb i)); chain = chain; cap = kept_is s' (s * l) hs i }; ends = ho i; yes = ht i; no = u }
+      λ i. record { node = record { block = Some (block f (hb i)); chain = chain; cap = kept_is s' (s * l) hs i }; call = None; ends = ho i; yes = ht i; no = u }
 
   pub while_laid : (s b n l : ℕ) (e : Expr) (xs : List Stmt) (k : Targets) (L0 L1 L2 : List Spot) (s1 b1 m yt s2 b2 n2 : ℕ) (tn : Turn) (xs' : List Stmt) (k2 : Targets)
       → L1 ≡ L0 ++ spot_at (place f chain s1) b1 (ends.Loop tn) yt k.next ∷ [] → L2 ≡ L1 ++ list_spots cs (place f chain s2) xs' b2 n2 false k2

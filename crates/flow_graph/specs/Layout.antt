@@ -42,10 +42,11 @@ turn from past bound at_end = record { from = from; past = past; bound = bound; 
 
 -- the node of the block b
 abbrev pub spot_at : Position → ℕ → Ends → ℕ → ℕ → Spot
-spot_at w b e t u = record { node = record { block = Some (block w.func b); chain = w.chain; cap = kept w.scale }; ends = e; yes = t; no = u }
+spot_at w b e t u = record { node = record { block = Some (block w.func b); chain = w.chain; cap = kept w.scale }; call = None; ends = e; yes = t; no = u }
 
-abbrev pub landing_at : Position → ℕ → Spot
-landing_at w t = record { node = record { block = None; chain = w.chain; cap = kept w.scale }; ends = ends.Once; yes = t; no = t }
+-- the landing of the call with this block
+abbrev pub landing_at : Position → Option BlockName → ℕ → Spot
+landing_at w call t = record { node = record { block = None; chain = w.chain; cap = kept w.scale }; call = call; ends = ends.Once; yes = t; no = t }
 
 -- ---- lists of statements, where `run` tells that a block of simple ones, of the number b, is not laid out yet
 
@@ -98,4 +99,4 @@ HasRoom (Some c) n = n + c.size < 2 ^ 32
 
 -- Entry and Exit, which stand in no call and are reached once
 abbrev pub outer_spot : Ends → ℕ → Spot
-outer_spot e t = record { node = record { block = None; chain = []; cap = 1 }; ends = e; yes = t; no = t }
+outer_spot e t = record { node = record { block = None; chain = []; cap = 1 }; call = None; ends = e; yes = t; no = t }

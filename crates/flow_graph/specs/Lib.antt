@@ -3,5 +3,8 @@ pub mod Amounts
 pub mod Spots
 pub mod Layout
 pub mod Joints
+pub mod Leaving
+pub mod Spans
+pub mod Landings
 pub mod Plans
 pub mod Worked

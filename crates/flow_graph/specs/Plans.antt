@@ -1,5 +1,5 @@
 -- Plans: a well-formed program and its costs, whose graph is within the limits. This project's own.
-use Rattle.std.specs.Prelude.{◌≡◌, ℕ, ◌&&◌, Bool, nat_lt, List, length, Option, None, Some, slice_get}
+use Rattle.std.specs.Prelude.{◌≡◌, ℕ, ◌&&◌, Bool, nat_lt, List, length, map, Option, None, Some, slice_get}
 use Rattle.std.specs.List.{list_all}
 use Rattle.c_tree.specs.declared.program.Program.{Program}
 use Rattle.c_tree.specs.declared.program.Costs.{Costs}
@@ -8,10 +8,14 @@ use Rattle.c_tree.specs.WellFormed.{WellFormed}
 use Rattle.flow_laws.specs.declared.graph.Edge.{Edge}
 use Rattle.flow_laws.specs.declared.graph.Loop.{Loop}
 use Rattle.flow_laws.specs.Sites.{Site}
-use Rattle.flow_laws.specs.Graphs.{graph, edges, loops}
+use Rattle.flow_laws.specs.Graphs.{graph, edges, loops, loop_copies}
 use Rattle.flow_laws.specs.Paths.{keeps_each, cost_of_block}
+use Rattle.flow_graph.specs.declared.onward.Outs.{Outs}
+use Rattle.flow_graph.specs.declared.interval.Span.{Span}
 use Rattle.flow_graph.specs.declared.spot.Spot.{Spot}
 use Rattle.flow_graph.specs.Limits.{refusal, block_copies}
+use Rattle.flow_graph.specs.Leaving.{all_outs}
+use Rattle.flow_graph.specs.Spans.{span_of}
 use Rattle.flow_graph.specs.Spots.{spots}
 
 -- what is planned
@@ -22,14 +26,22 @@ pub record Planned : Type 0 where
 abbrev pub planned : Program → Costs → Planned
 planned p t = record { program = p; costs = t }
 
+-- what every plan keeps: its program is well-formed, its costs are of this program, and no limit refuses its graph
+pub record IsPlanned (plan : Planned) : Type 0 where
+  pub formed : WellFormed plan.program
+  pub costed : AreCostsOf plan.program plan.costs
+  pub allowed : refusal (graph plan.program) ≡ None
+
 -- the lists that a plan owns are those of the graph, and nothing refuses it
-pub record IsPlan (p : Program) (t : Costs) (laid : List Spot) (es : List Edge) (ls : List Loop) (copies : ℕ) : Type 0 where
+pub record IsPlan (p : Program) (t : Costs) (laid : List Spot) (es : List Edge) (outs : List Outs) (ls : List Loop) (spans : List Span) (copies : ℕ) : Type 0 where
   pub formed : WellFormed p
   pub costed : AreCostsOf p t
   pub allowed : refusal (graph p) ≡ None
   pub nodes_are : laid ≡ spots (graph p)
   pub edges_are : es ≡ edges (graph p)
+  pub outs_are : outs ≡ all_outs 0 (spots (graph p))
   pub loops_are : ls ≡ loops (graph p)
+  pub spans_are : spans ≡ map span_of (loop_copies (graph p))
   pub copies_are : copies ≡ block_copies (graph p)
 
 -- the list names only edges, and keeps each loop's bound

@@ -1,5 +1,6 @@
 -- Nodes as they are laid out: without their statements, and with caps that stay at the last number of 64 bits. This project's own.
 use Rattle.std.specs.Prelude.{List, map, Option, Some, None}
+use Rattle.c_tree.specs.declared.program.BlockName.{BlockName}
 use Rattle.flow_laws.specs.declared.graph.Node.{Node}
 use Rattle.flow_laws.specs.Sites.{LoopCopy, Content, Entry, Exit, Simple, Test, Jump, Give, Enter, Missing, Land, Site}
 use Rattle.flow_graph.specs.declared.spot.Turn.{Turn}
@@ -26,11 +27,16 @@ ends_of (Enter t ls es) = ends.Once
 ends_of Missing = ends.Once
 ends_of (Land t ty b) = ends.Once
 
+-- the block of a landing's call
+abbrev pub call_of : Content → Option BlockName
+call_of (Land t ty b) = Some b
+call_of _ = None
+
 abbrev pub kept_node : Node → Node
 kept_node nd = record { block = nd.block; chain = nd.chain; cap = kept nd.cap }
 
 abbrev pub spot_of : Site → Spot
-spot_of s = record { node = kept_node s.node; ends = ends_of s.content; yes = s.yes; no = s.no }
+spot_of s = record { node = kept_node s.node; call = call_of s.content; ends = ends_of s.content; yes = s.yes; no = s.no }
 
 abbrev pub spots : List Site → List Spot
 spots g = map spot_of g

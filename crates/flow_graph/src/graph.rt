@@ -1,17 +1,22 @@
 //! Plans.
 
-ghost use Rattle.std.specs.Prelude.{◌≡◌, ◌<◌, ◌≤◌, ◌^◌, None, Some, ◌&&◌, nat_lt, length, slice_get};
+ghost use Rattle.std.specs.Prelude.{◌≡◌, ◌<◌, ◌≤◌, ◌^◌, None, Some, ◌&&◌, nat_lt, length, slice_get, map};
 ghost use Rattle.std.specs.List.{list_all};
 ghost use Rattle.c_tree.specs.Claims.{AreCostsOf};
 ghost use Rattle.c_tree.specs.WellFormed.{WellFormed};
-ghost use Rattle.flow_laws.specs.Graphs.{graph, nodes, edges, loops};
+ghost use Rattle.flow_laws.specs.Graphs.{graph, nodes, edges, loops, loop_copies};
 ghost use Rattle.flow_laws.specs.Paths.{edge_cost, follows, keeps_each};
 ghost use Rattle.flow_graph.specs.Limits.{block_copies, refusal};
-ghost use Rattle.flow_graph.specs.Plans.{IsPlan, planned, keeps_all};
+ghost use Rattle.flow_graph.specs.Landings.{calls};
+ghost use Rattle.flow_graph.specs.Leaving.{AreOuts};
+ghost use Rattle.flow_graph.specs.Plans.{IsPlan, IsPlanned, planned, keeps_all};
+ghost use Rattle.flow_graph.specs.Spans.{span_of};
 
 use crate::lists::{edge_cost, follows, keeps_each, names_edges};
+use crate::onward::Outs;
+use crate::interval::Span;
 use crate::spot::Spot;
-use c_tree::{Costs, Program};
+use c_tree::{BlockName, Costs, Program};
 use flow_laws::{Edge, Loop, Node};
 use sqlite_items::Items;
 use std::marker::Model;
@@ -25,7 +30,9 @@ pub struct Plan {
     costs: Costs,
     spots: Items<Spot>,
     edges: Items<Edge>,
+    outs: Items<Outs>,
     loops: Items<Loop>,
+    spans: Items<Span>,
     copies: u32,
 }
 
@@ -41,7 +48,7 @@ impl Model for Plan {
 
     ghost view = { λ p. planned p.program p.costs };
 
-    ghost invariant = { λ p. IsPlan p.program p.costs p.spots p.edges p.loops p.copies };
+    ghost invariant = { λ p. IsPlan p.program p.costs p.spots p.edges p.outs p.loops p.spans p.copies };
 }
 
 impl Plan {
@@ -51,10 +58,12 @@ impl Plan {
         costs: Costs,
         spots: Items<Spot>,
         edges: Items<Edge>,
+        outs: Items<Outs>,
         loops: Items<Loop>,
+        spans: Items<Span>,
         copies: u32,
     ) -> Plan
-        requires { IsPlan program costs spots edges loops copies }
+        requires { IsPlan program costs spots edges outs loops spans copies }
         ensures { result ≡ planned program costs }
     {
         Plan {
@@ -62,14 +71,17 @@ impl Plan {
             costs,
             spots,
             edges,
+            outs,
             loops,
+            spans,
             copies,
         }
     }
 
-    /// The program. It is well-formed, and its graph is within the limits.
+    /// The program. It is well-formed, and its graph is within the limits; the costs are of this program.
     pub fn program(&self) -> &Program
         ensures value { result.now ≡ self.now.program }
+        ensures planned { IsPlanned self.now }
         ensures formed { WellFormed self.now.program }
         ensures allowed { refusal (graph self.now.program) ≡ None }
     {
@@ -131,6 +143,30 @@ impl Plan {
         ensures cap { result.now.cap ≤ 2 ^ 40 }
     {
         &self.spots.as_slice()[n as usize].node
+    }
+
+    /// Of a landing the block of its call; no other node has one.
+    pub fn call(&self, n: u32) -> Option<BlockName>
+        requires { n < length (graph self.now.program) }
+        ensures { slice_get (calls (graph self.now.program)) n ≡ Some result }
+    {
+        self.spots.as_slice()[n as usize].call
+    }
+
+    /// The edges that leave the node number `n`: none where it is Exit, two where it is a condition, else one. It takes
+    /// constant time.
+    pub fn outs(&self, n: u32) -> Outs
+        requires { n < length (graph self.now.program) }
+        ensures { AreOuts (edges (graph self.now.program)) n result }
+    {
+        self.outs.as_slice()[n as usize]
+    }
+
+    /// Where each of `loops` stands.
+    pub fn spans(&self) -> &[Span]
+        ensures { result.now ≡ map span_of (loop_copies (graph self.now.program)) }
+    {
+        self.spans.as_slice()
     }
 
     /// The loop copies, by their conditions' nodes.

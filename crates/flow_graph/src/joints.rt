@@ -83,8 +83,8 @@ fn push_loop(
     }
 }
 
-// How many edges leave a node.
-fn outs(spot: &Spot) -> u16
+/// How many edges leave a node.
+pub(crate) fn outs(spot: &Spot) -> u16
     ensures { result ≡ length (outs_of 0 spot.now) }
 {
     match spot.ends {

@@ -106,14 +106,22 @@ fn spot(
     };
     Ok(Spot {
         node,
+        call: None,
         ends,
         yes,
         no,
     })
 }
 
-fn landing(alloc: Global, scope: Scope, scale: u64, next: u32) -> Result<Spot, NoMemory>
-    ensures { IfOk result (λ s. s ≡ landing_at (place scope.entry.func scope.entry.chain.now scale) next) }
+// The landing of the call with this block.
+fn landing(
+    alloc: Global,
+    scope: Scope,
+    call: Option<BlockName>,
+    scale: u64,
+    next: u32,
+) -> Result<Spot, NoMemory>
+    ensures { IfOk result (λ s. s ≡ landing_at (place scope.entry.func scope.entry.chain.now scale) call next) }
 {
     let chain = Items::from_slice(alloc, scope.chain)?;
     let node = Node {
@@ -123,6 +131,7 @@ fn landing(alloc: Global, scope: Scope, scale: u64, next: u32) -> Result<Spot, N
     };
     Ok(Spot {
         node,
+        call,
         ends: Ends::Once,
         yes: next,
         no: next,
@@ -255,7 +264,7 @@ fn put_call(
     let first = at.node + 1;
     let Some(size) = size_above(scope.above, callee) else {
         put(alloc, scope, at, Ends::Once, first, first, out)?;
-        let landing = landing(alloc, scope, at.scale, next)?;
+        let landing = landing(alloc, scope, None, at.scale, next)?;
         out.push(Item::One(landing))?;
         return Ok(at.block + 1);
     };
@@ -267,7 +276,7 @@ fn put_call(
     };
     let enter = spot(alloc, scope, at, Ends::Once, head, head)?;
     out.push(Item::Call(enter, block, callee, first))?;
-    let landing = landing(alloc, scope, at.scale, next)?;
+    let landing = landing(alloc, scope, Some(block), at.scale, next)?;
     out.push(Item::One(landing))?;
     Ok(at.block + 1)
 }

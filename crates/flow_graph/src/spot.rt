@@ -1,5 +1,6 @@
 //! Nodes with their ends, as they are laid out.
 
+use c_tree::BlockName;
 use flow_laws::Node;
 
 /// A copy of a loop: its nodes are those from `from` on that are below `past`. `bound` is how often its body may be entered,
@@ -21,10 +22,11 @@ pub(crate) enum Ends {
     Loop(Turn),
 }
 
-/// A node, and where its `True` or its `Next` leads (`yes`) and its `False` (`no`).
+/// A node, of a landing the block of its call, and where its `True` or its `Next` leads (`yes`) and its `False` (`no`).
 #[derive(Drop)]
 pub(crate) struct Spot {
     pub node: Node,
+    pub call: Option<BlockName>,
     pub ends: Ends,
     pub yes: u32,
     pub no: u32,

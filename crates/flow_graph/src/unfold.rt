@@ -60,6 +60,7 @@ fn outermost(alloc: Global, ends: Ends, to: u32) -> Spot
     };
     Spot {
         node,
+        call: None,
         ends,
         yes: to,
         no: to,

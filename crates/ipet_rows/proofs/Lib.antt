@@ -7,3 +7,4 @@ pub mod Named
 pub mod OneMore
 pub mod Worked
 pub mod AsDual
+pub mod Counting

@@ -3,4 +3,6 @@ pub mod Counts
 pub mod CapsBound
 pub mod Sound
 pub mod Worked
+pub mod Optimum
+pub mod Counted
 pub mod PlainDual

@@ -1,5 +1,5 @@
 -- Rows of a plan that the counts of each of its driven paths meet.
-use Rattle.std.specs.Prelude.{◌≡◌, ℕ, List, length}
+use Rattle.std.specs.Prelude.{◌≡◌, ℕ, List, length, All}
 use Rattle.flow_laws.specs.Graphs.{graph, edges}
 use Rattle.flow_graph.specs.Plans.{Planned}
 use Rattle.lin_rows.specs.declared.row.Row.{Row}
@@ -13,6 +13,14 @@ pub record PlanRows : Type 0 where
   pub plan : Planned
   pub rows : List Row
   pub costs : List ℕ
+
+-- what sound rows keep: the counts of each driven path meet them, they name edges of the plan, none twice in a row, and each edge has its
+-- cost
+pub record AreSoundRows (s : PlanRows) : Type 0 where
+  pub hold : HoldOnPaths s.plan.program s.rows
+  pub below : All (λ row. NamesBelow (length (edges (graph s.plan.program))) row.terms) s.rows
+  pub once : All (λ row. NamesOnce row.terms) s.rows
+  pub costs_are : s.costs ≡ costs_of_edges s.plan.costs (graph s.plan.program) (edges (graph s.plan.program))
 
 -- one row of a plan
 pub record PlanRow : Type 0 where

@@ -1,11 +1,13 @@
 //! Facts about the rows and the bound by caps, as the contracts of functions that do nothing.
 
-ghost use Rattle.std.specs.Prelude.{◌≡◌, ◌≤◌, ◌^◌, ◌∷◌, [], length, pos};
+ghost use Rattle.std.specs.Prelude.{◌≡◌, ◌≤◌, ◌^◌, ◌∷◌, [], ℕ, List, length, pos};
 ghost use Rattle.c_tree.specs.declared.program.Program.{Program};
 ghost use Rattle.c_tree.specs.declared.program.Costs.{Costs};
 ghost use Rattle.c_tree.specs.WellFormed.{WellFormed};
 ghost use Rattle.c_tree.specs.Claims.{Above};
-ghost use Rattle.flow_laws.specs.Graphs.{graph};
+ghost use Rattle.flow_laws.specs.Graphs.{graph, edges, loops};
+ghost use Rattle.flow_laws.specs.Paths.{IsPath, KeepsEach};
+ghost use Rattle.flow_laws.specs.Claims.{IsDriven};
 ghost use Rattle.lin_rows.specs.declared.count_box.CountBox.{CountBox};
 ghost use Rattle.lin_rows.specs.declared.multipliers.Multipliers.{Multipliers};
 ghost use Rattle.lin_rows.specs.declared.objective.Objective.{Objective};
@@ -17,11 +19,32 @@ ghost use Rattle.flow_laws.specs.WorkedGraphs.{empty_do};
 ghost use Rattle.ipet_rows.specs.Worked.{plus, minus, equal, at_most, once_do};
 ghost use Rattle.ipet_rows.specs.FlowRows.{flow_rows};
 ghost use Rattle.ipet_rows.specs.Counts.{HoldOnPaths};
-ghost use Rattle.ipet_rows.specs.CapsBound.{caps_bound, AreSmall};
+ghost use Rattle.ipet_rows.specs.Counted.{IsCounted};
+ghost use Rattle.ipet_rows.specs.Optimum.{IpetOptimum};
+ghost use Rattle.ipet_rows.specs.CapsBound.{caps_bound, caps_of_edges, AreSmall};
 
 /// The counts of each driven path of a well-formed program meet every row of its graph.
 pub fn path_counts_meet_rows()
     ensures { (p : Program) → WellFormed p → HoldOnPaths p (flow_rows (graph p)) }
+{}
+
+/// The counts of a path that keeps the bounds of all loops lie in the box from 0 to the caps, meet every row, and cost what the
+/// path does, whether an input drives it or not.
+pub fn kept_paths_are_counted()
+    ensures { (p : Program) (t : Costs) (within : CountBox) (q : List ℕ) → WellFormed p
+        → within.limits ≡ caps_of_edges (graph p) (edges (graph p)) → IsPath (edges (graph p)) q → KeepsEach (loops (graph p)) q
+        → IsCounted p t within q }
+{}
+
+/// So do those of a driven path.
+pub fn driven_paths_are_counted()
+    ensures { (p : Program) (t : Costs) (within : CountBox) (q : List ℕ) → WellFormed p
+        → within.limits ≡ caps_of_edges (graph p) (edges (graph p)) → IsDriven p q → IsCounted p t within q }
+{}
+
+/// At most one number is the optimum of a program.
+pub fn one_optimum()
+    ensures { (p : Program) (t : Costs) (m n : ℕ) → IpetOptimum p t m → IpetOptimum p t n → m ≡ n }
 {}
 
 /// No run of a well-formed program costs more than all edges at their caps. Where each block costs less than 2^32 that sum is at

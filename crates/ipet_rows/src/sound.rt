@@ -6,6 +6,7 @@ ghost use Rattle.lin_rows.specs.Names.{NamesBelow, NamesOnce};
 ghost use Rattle.ipet_rows.specs.FlowRows.{flow_rows};
 ghost use Rattle.ipet_rows.specs.Counts.{HoldsOnPaths, HoldOnPaths};
 ghost use Rattle.ipet_rows.specs.CapsBound.{costs_of_edges};
+ghost use Rattle.ipet_rows.specs.Sound.{AreSoundRows};
 
 use crate::building::{edge_costs, flow_rows};
 use c_tree::NoMemory;
@@ -68,11 +69,12 @@ impl<'p> SoundRows<'p> {
         self.plan
     }
 
-    /// The rows, which are over the plan's edges. The counts of each driven path meet them.
+    /// The rows, which are over the plan's edges and name none twice. The counts of each driven path meet them.
     pub fn rows(&self) -> &Rows
         ensures value { result.now.rows ≡ self.now.rows }
         ensures edges { result.now.edges ≡ length (edges (graph self.now.plan.program)) }
         ensures hold { HoldOnPaths self.now.plan.program self.now.rows }
+        ensures sound { AreSoundRows self.now }
     {
         &self.rows
     }

@@ -2,6 +2,9 @@ use Rattle.std.proofs.Common.{◌∙◌, ap, sym, arith, length}
 use Rattle.flow_laws.specs.Graphs.{graph}
 use Rattle.flow_laws.proofs.Turned.{graph_turned}
 use Rattle.flow_graph.specs.Joints.{spot_edges, spot_loops}
+use Rattle.flow_graph.specs.Leaving.{all_outs}
+use Rattle.flow_graph.specs.Spans.{spot_spans}
+use Rattle.flow_graph.proofs.Leaving.{spans_are}
 use Rattle.flow_graph.proofs.Drawn.{edges_are, loops_are}
 use Rattle.flow_graph.proofs.Measured.{entered, short}
 use Rattle.flow_graph.proofs.planning.plan.Goals as goal
@@ -19,6 +22,19 @@ loops_of-requires-clause-few c =
     let l = ap length (c.as_slice-4.ensures ∙ c.in_ok-edges.ensures ∙ ap (spot_edges 0) (c.as_slice-2.ensures ∙ c.in_ok-spots.ensures) ∙ sym (edges_are (graph p))) in
     omega (arith, l, c.in_ok-copies.ensures.fewer)
 
+pub outs_by_node-requires : goal.outs_by_node-requires
+outs_by_node-requires c =
+    let p = c.args.program in
+    let l = ap (λ y. length (spot_edges 0 y)) (c.as_slice-5.ensures ∙ c.in_ok-spots.ensures) ∙ ap length (sym (edges_are (graph p))) in
+    omega (arith, l, c.in_ok-copies.ensures.fewer)
+
+pub spans_of-requires : goal.spans_of-requires
+spans_of-requires c =
+    let p = c.args.program in
+    let s = short p (entered p c.program_is_well_formed.ensures.entry) c.in_ok-copies.ensures.fewer in
+    let l = ap length (c.as_slice-6.ensures ∙ c.in_ok-spots.ensures) in
+    omega (arith, s, l)
+
 pub of_graph-requires : goal.of_graph-requires
 of_graph-requires c =
     let p = c.args.program in
@@ -32,6 +48,8 @@ of_graph-requires c =
       allowed = c.in_ok-check_caps.ensures.whole;
       nodes_are = s;
       edges_are = e;
+      outs_are = c.in_ok-outs.ensures ∙ ap (all_outs 0) (c.as_slice-5.ensures ∙ s);
       loops_are = c.in_ok-loops.ensures ∙ (λ i. spot_loops (edges_is i) 0 (spots_is i)) ∙ sym (loops_are (graph p) (graph_turned p));
+      spans_are = c.in_ok-spans.ensures ∙ ap (spot_spans 0) (c.as_slice-6.ensures ∙ s) ∙ sym (spans_are 0 (graph p) (graph_turned p));
       copies_are = c.in_ok-copies.ensures.copies;
     }

@@ -1,0 +1,426 @@
+-- What a node of a program's graph does is found by the name of its block, and of a landing by that of its call.
+use Rattle.std.proofs.Common.{◌≡◌, ◌<◌, ◌≤◌, ℕ, zero, suc, ◌+◌, Bool, true, false, if◌then◌else◌, List, [], ◌∷◌, ◌++◌, length, Option, Some, None, refl, sym, ap, ◌∙◌, subst, arith}
+use Rattle.std.specs.Prelude.{slice_get, nat_lt}
+use Rattle.std.proofs.lemmas.Bool.{lt-ltb, le-ltb}
+use Rattle.std.proofs.lemmas.List.{length-append}
+use Rattle.c_tree.specs.declared.tree.Expr.{Expr}
+use Rattle.c_tree.specs.declared.tree.Target.{Target}
+use Rattle.c_tree.specs.declared.tree.Stmt.{Stmt, Row_of-Stmt, end_of-Stmt, more_of-Stmt, Held-Stmt-For-1, None', Some'}
+use Rattle.c_tree.specs.declared.tree.Stmt.TheVariants as stmt
+use Rattle.c_tree.specs.declared.program.BlockName.{BlockName}
+use Rattle.c_tree.specs.declared.program.Func.{Func}
+use Rattle.c_tree.specs.declared.program.Program.{Program}
+use Rattle.c_tree.specs.Blocks.{is_simple, begun, blocks, row_blocks, held_blocks}
+use Rattle.c_tree.specs.Statements.{block}
+use Rattle.flow_laws.specs.Sites.{Entry, Exit, Simple, Jump, Give, Enter, Missing, Land, Site, Copy, Position, Targets, flow, row_flow, held_flow, list_flow, size, row_size, held_size, list_size, call_sites, flush, one, asks, head, past, with_next, body_of, times_as_often, loop_at}
+use Rattle.flow_laws.specs.Graphs.{copies, copy_of, sites_of, graph, all_to, outermost}
+use Rattle.flow_graph.specs.Spots.{call_of}
+use Rattle.flow_graph.proofs.Measured.{entered}
+use Rattle.node_contents.specs.Pieces.{Piece, Run, Asks, Jumps, Gives, Calls, run_piece, pieces, row_pieces, held_pieces, list_pieces, func_pieces, piece_in, piece_at}
+use Rattle.node_contents.specs.Contents.{plain as loopless, entered as called, block_content, result_in, landed, landing_content, bare_content, Told}
+
+-- the blocks of a function of the program
+abbrev pieces_in : Option Func → List Piece
+pieces_in None = []
+pieces_in (Some f) = func_pieces f
+
+abbrev pieces_of : Program → ℕ → List Piece
+pieces_of p k = pieces_in (slice_get p.funcs k)
+
+piece_is : (o : Option Func) (m : ℕ) → piece_in o m ≡ slice_get (pieces_in o) m
+piece_is None m = refl
+piece_is (Some f) m = refl
+
+-- ---- parts of a list
+
+-- the list has these parts from its place b on
+pub record Sits (whole : List Piece) (b : ℕ) (ps : List Piece) : Type 0 where
+  pub each : (j : ℕ) (x : Piece) → slice_get ps j ≡ Some x → slice_get whole (b + j) ≡ Some x
+
+front : (xs ys : List Piece) (j : ℕ) (x : Piece) → slice_get xs j ≡ Some x → slice_get (xs ++ ys) j ≡ Some x
+front [] ys j x h = absurd (cc h)
+front (z ∷ xs) ys zero x h = h
+front (z ∷ xs) ys (suc j) x h = front xs ys j x h
+
+back : (xs ys : List Piece) (j : ℕ) (x : Piece) → slice_get ys j ≡ Some x → slice_get (xs ++ ys) (length xs + j) ≡ Some x
+back [] ys j x h = ap (slice_get ys) (plain j) ∙ h
+  where
+    plain : (j : ℕ) → 0 + j ≡ j
+    plain j = omega arith
+back (z ∷ xs) ys j x h = ap (slice_get (z ∷ (xs ++ ys))) (next (length xs) j) ∙ back xs ys j x h
+  where
+    next : (m j : ℕ) → suc m + j ≡ suc (m + j)
+    next m j = omega arith
+
+sits_front : (whole : List Piece) (b : ℕ) (xs ys : List Piece) → Sits whole b (xs ++ ys) → Sits whole b xs
+sits_front whole b xs ys h = record { each = λ j x is. h.each j x (front xs ys j x is) }
+
+sits_back : (whole : List Piece) (b c : ℕ) (xs ys : List Piece) → b + length xs ≡ c → Sits whole b (xs ++ ys) → Sits whole c ys
+sits_back whole b c xs ys e h = record { each = λ j x is. ap (slice_get whole) (same b (length xs) j c e) ∙ h.each (length xs + j) x (back xs ys j x is) }
+  where
+    same : (b m j c : ℕ) → b + m ≡ c → c + j ≡ b + (m + j)
+    same b m j c e = omega arith
+
+sits_first : (whole : List Piece) (b : ℕ) (x : Piece) (ps : List Piece) → Sits whole b (x ∷ ps) → slice_get whole b ≡ Some x
+sits_first whole b x ps h = ap (slice_get whole) (plain b) ∙ h.each 0 x refl
+  where
+    plain : (b : ℕ) → b ≡ b + 0
+    plain b = omega arith
+
+sits_rest : (whole : List Piece) (b : ℕ) (x : Piece) (ps : List Piece) → Sits whole b (x ∷ ps) → Sits whole (b + 1) ps
+sits_rest whole b x ps h = record { each = λ j y is. ap (slice_get whole) (next b j) ∙ h.each (suc j) y is }
+  where
+    next : (b j : ℕ) → b + 1 + j ≡ b + suc j
+    next b j = omega arith
+
+-- ---- how many
+
+past_by : (ss : List Stmt) (b : ℕ) → b + length (run_piece ss) ≡ past ss b
+past_by [] b = omega arith
+past_by (s ∷ ss) b = omega arith
+
+started : List Stmt → Bool
+started [] = false
+started (s ∷ ss) = true
+
+begun_with : (ss : List Stmt) (s : Stmt) (n m : ℕ) → n ≡ 1 + m → n ≡ length (run_piece ss) + (begun (started ss) + m)
+unfolding started
+begun_with [] s n m h = omega arith
+begun_with (x ∷ ss) s n m h = omega arith
+
+after_one : (ss : List Stmt) (s : Stmt) → (length (run_piece (ss ++ s ∷ [])) ≡ 1) × (started (ss ++ s ∷ []) ≡ true)
+unfolding started
+after_one [] s = (refl, refl)
+after_one (x ∷ ss) s = (refl, refl)
+
+simple_blocks : (s : Stmt) (run : Bool) → is_simple s ≡ true → blocks s run ≡ begun run
+unfolding blocks
+simple_blocks stmt.Empty run h = refl
+simple_blocks (stmt.Scalar l e) run h = refl
+simple_blocks (stmt.Array l es) run h = refl
+simple_blocks (stmt.Assign p o e) run h = refl
+simple_blocks _ run h = absurd (cc h)
+
+-- one statement more, simple or not
+many_step : (ss : List Stmt) (s : Stmt) (b : Bool) → is_simple s ≡ b → (more ps rest : List Piece) (n : Bool → ℕ) → length more ≡ length (run_piece (ss ++ s ∷ [])) + n (started (ss ++ s ∷ [])) → (is_simple s ≡ false → length ps ≡ blocks s (started ss)) → length rest ≡ length (run_piece []) + n (started []) → length (if b then more else run_piece ss ++ (ps ++ rest)) ≡ length (run_piece ss) + (blocks s (started ss) + n b)
+unfolding started
+many_step ss s true e more ps rest n hm hp hr =
+    let one_more = after_one ss s in
+    let m : length more ≡ 1 + n true = hm ∙ (ap (λ k. k + n (started (ss ++ s ∷ []))) one_more.0 ∙ ap (λ b. 1 + n b) one_more.1) in
+    begun_with ss s (length more) (n true) m ∙ ap (λ k. length (run_piece ss) + (k + n true)) (sym (simple_blocks s (started ss) e))
+many_step ss s false e more ps rest n hm hp hr = omega (arith, length-append (run_piece ss) (ps ++ rest), length-append ps rest, hp e, hr)
+
+mutual
+  unfolding blocks row_blocks held_blocks pieces row_pieces held_pieces started
+
+  many : (s : Stmt) (run : Bool) → is_simple s ≡ false → length (pieces s) ≡ blocks s run
+  many stmt.Empty run h = absurd (cc h)
+  many (stmt.Scalar l e) run h = absurd (cc h)
+  many (stmt.Array l es) run h = absurd (cc h)
+  many (stmt.Assign p o e) run h = absurd (cc h)
+  many (stmt.Call t g es) run h = refl
+  many stmt.Break run h = refl
+  many stmt.Continue run h = refl
+  many (stmt.Return e) run h = refl
+  many (stmt.If' e a x b y) run h = omega (arith, length-append (row_pieces [] x) (row_pieces [] y), row_many [] x, row_many [] y)
+  many (stmt.While' l e a x) run h = omega (arith, row_many [] x)
+  many (stmt.Do' l a x e) run h = omega (arith, length-append (row_pieces [] x) (Asks e ∷ []), row_many [] x)
+  many (stmt.For' l i e j a x) run h = omega (arith, length-append (held_pieces i) (Asks e ∷ (held_pieces j ++ row_pieces [] x)), length-append (held_pieces j) (row_pieces [] x), held_many i, held_many j, row_many [] x)
+  many (stmt.Group' a x) run h = omega (arith, row_many [] x)
+
+  row_many : {m : _} (ss : List Stmt) (x : Row_of-Stmt m) → length (row_pieces ss x) ≡ length (run_piece ss) + row_blocks x (started ss)
+  row_many ss end_of-Stmt = omega arith
+  row_many ss (more_of-Stmt s rest) = many_step ss s (is_simple s) refl (row_pieces (ss ++ s ∷ []) rest) (pieces s) (row_pieces [] rest) (row_blocks rest) (row_many (ss ++ s ∷ []) rest) (λ h. many s (started ss) h) (row_many [] rest)
+
+  held_many : (x : Held-Stmt-For-1) → length (held_pieces x) ≡ held_blocks x
+  held_many None' = refl
+  held_many (Some' a x) = omega (arith, row_many [] x)
+
+many_of : {m : _} (x : Row_of-Stmt m) → length (row_pieces [] x) ≡ row_blocks x false
+unfolding started
+many_of x = row_many [] x ∙ plain (row_blocks x false)
+  where
+    plain : (n : ℕ) → 0 + n ≡ n
+    plain n = omega arith
+
+-- ---- sites
+
+-- what the site does is told by its block, and where it has none, by the block of its call
+pub record Found (p : Program) (s : Site) : Type 0 where
+  pub named : (k m : ℕ) → s.node.block ≡ Some (block k m) → loopless s.content ≡ block_content p k (slice_get (pieces_of p k) m)
+  pub bare : s.node.block ≡ None → s.content ≡ landing_content p (call_of s.content)
+
+abbrev pub AllFound : Program → List Site → Type 0
+AllFound p [] = Unit {0}
+AllFound p (s ∷ g) = Found p s × AllFound p g
+
+all_append : (p : Program) (a b : List Site) → AllFound p a → AllFound p b → AllFound p (a ++ b)
+all_append p [] b h k = k
+all_append p (s ∷ a) b h k = (h.0, all_append p a b h.1 k)
+
+pub found_at : (p : Program) (g : List Site) → AllFound p g → (n : ℕ) (s : Site) → slice_get g n ≡ Some s → Found p s
+found_at p [] h n s is = absurd (cc is)
+found_at p (x ∷ g) h zero s is =
+    let same : x ≡ s = cc is in
+    subst (Found p) same h.0
+found_at p (x ∷ g) h (suc n) s is = found_at p g h.1 n s is
+
+clash : (k m : ℕ) → None ≡ Some (block k m) → ⊥
+clash k m h = absurd (cc)
+
+-- a site of this block
+own : (p : Program) (s : Site) (f b : ℕ) (x : Piece) → s.node.block ≡ Some (block f b) → slice_get (pieces_of p f) b ≡ Some x → loopless s.content ≡ block_content p f (Some x) → Found p s
+own p s f b x is has does = record {
+  named = λ k m e.
+      let both : Some (block f b) ≡ Some (block k m) = sym is ∙ e in
+      let same : block f b ≡ block k m = cc both in
+      let funcs : f ≡ k = ap (λ (n : BlockName). n.func) same in
+      let numbers : b ≡ m = ap (λ (n : BlockName). n.number) same in
+      does ∙ ap (block_content p f) (sym has) ∙ (λ i. block_content p (funcs i) (slice_get (pieces_of p (funcs i)) (numbers i)));
+  bare = λ e. absurd (clash f b (sym e ∙ is));
+}
+
+-- a site without a block
+no_block : (p : Program) (s : Site) → s.node.block ≡ None → s.content ≡ landing_content p (call_of s.content) → Found p s
+no_block p s is does = record { named = λ k m e. absurd (clash k m (sym is ∙ e)); bare = λ e. does }
+
+flush_found : (p : Program) (w : Position) (ss : List Stmt) (b t : ℕ) → Sits (pieces_of p w.func) b (run_piece ss) → AllFound p (flush w ss (block w.func b) t)
+flush_found p w [] b t h = tt
+flush_found p w (s ∷ ss) b t h = (own p (one w (Simple (s ∷ ss)) (Some (block w.func b)) t) w.func b (Run (s ∷ ss)) refl (sits_first (pieces_of p w.func) b (Run (s ∷ ss)) [] h) refl, tt)
+
+-- a copy of the function number k
+pub record FoundCopy (p : Program) (k : ℕ) (c : Copy) : Type 0 where
+  pub func : Func
+  pub is : slice_get p.funcs k ≡ Some func
+  pub locals_are : func.locals ≡ c.locals
+  pub result_is : func.result ≡ c.result
+  pub sites : (chain : List BlockName) (scale n landing : ℕ) → AllFound p (c.sites chain scale n landing)
+
+-- copies of the functions from the number k on
+abbrev pub FoundCopies : Program → ℕ → List Copy → Type 0
+FoundCopies p k [] = Unit {0}
+FoundCopies p k (c ∷ cs) = FoundCopy p k c × FoundCopies p (suc k) cs
+
+abbrev pub FoundOne : Program → ℕ → Option Copy → Type 0
+FoundOne p k None = Unit {0}
+FoundOne p k (Some c) = FoundCopy p k c
+
+get_copy : (p : Program) (k : ℕ) (cs : List Copy) (n : ℕ) → FoundCopies p k cs → FoundOne p (k + n) (slice_get cs n)
+get_copy p k [] n h = tt
+get_copy p k (c ∷ cs) zero h = subst (λ k. FoundCopy p k c) (plain k) h.0
+  where
+    plain : (k : ℕ) → k ≡ k + 0
+    plain k = omega arith
+get_copy p k (c ∷ cs) (suc n) h = subst (λ k. FoundOne p k (slice_get cs n)) (next k n) (get_copy p (suc k) cs n h.1)
+  where
+    next : (k n : ℕ) → suc k + n ≡ k + suc n
+    next k n = omega arith
+
+callee : (p : Program) (cs : List Copy) (g : ℕ) → FoundCopies p 0 cs → FoundOne p g (slice_get cs g)
+callee p cs g f = subst (λ k. FoundOne p k (slice_get cs g)) (plain g) (get_copy p 0 cs g f)
+  where
+    plain : (n : ℕ) → 0 + n ≡ n
+    plain n = omega arith
+
+copies_append : (p : Program) (k : ℕ) (cs : List Copy) (c : Copy) → FoundCopies p k cs → FoundCopy p (k + length cs) c → FoundCopies p k (cs ++ c ∷ [])
+copies_append p k [] c h f = (subst (λ k. FoundCopy p k c) (plain k) f, tt)
+  where
+    plain : (k : ℕ) → k + 0 ≡ k
+    plain k = omega arith
+copies_append p k (x ∷ cs) c h f = (h.0, copies_append p (suc k) cs c h.1 (subst (λ k. FoundCopy p k c) (next k (length cs)) f))
+  where
+    next : (k n : ℕ) → k + suc n ≡ suc k + n
+    next k n = omega arith
+
+-- the copies of all functions above the number k
+pub record Over (p : Program) (k : ℕ) (cs : List Copy) : Type 0 where
+  pub copies : FoundCopies p 0 cs
+  pub count : length cs ≡ k
+
+-- whether the function number g is above the number f
+abbrev Reach : Option Copy → ℕ → ℕ → Type 0
+Reach None g f = f ≤ g
+Reach (Some c) g f = g < f
+
+one_further : (o : Option Copy) (g m f : ℕ) → suc m ≡ f → Reach o g m → Reach o (suc g) f
+one_further None g m f e h = omega (arith, e, h)
+one_further (Some c) g m f e h = omega (arith, e, h)
+
+reach : (cs : List Copy) (g f : ℕ) → length cs ≡ f → Reach (slice_get cs g) g f
+reach [] g f e = omega (arith, e)
+reach (c ∷ cs) zero f e = omega (arith, e)
+reach (c ∷ cs) (suc g) f e = one_further (slice_get cs g) g (length cs) f e (reach cs g (length cs) refl)
+
+call_found : (p : Program) (w : Position) (g : ℕ) (o : Option Copy) (t : Target) (es : List Expr) (b n next : ℕ) → FoundOne p g o → Reach o g w.func → slice_get (pieces_of p w.func) b ≡ Some (Calls t g es) → AllFound p (call_sites w o t es (block w.func b) n next)
+call_found p w g None t es b n next h r has =
+    let no : Missing ≡ block_content p w.func (Some (Calls t g es)) = sym (ap (λ a. if a then called (slice_get p.funcs g) t es else Missing) (le-ltb g w.func r)) in
+    (own p (one w Missing (Some (block w.func b)) (n + 1)) w.func b (Calls t g es) refl has no, (no_block p (one w Missing None next) refl refl, tt))
+call_found p w g (Some c) t es b n next h r has =
+    let name : BlockName = block w.func b in
+    let yes : Enter t c.locals es ≡ block_content p w.func (Some (Calls t g es)) = ap (λ ls. Enter t ls es) (sym h.locals_are) ∙ ap (λ o. called o t es) (sym h.is) ∙ sym (ap (λ a. if a then called (slice_get p.funcs g) t es else Missing) (lt-ltb g w.func r)) in
+    let lands : Land t c.result name ≡ landing_content p (Some name) = ap (λ y. Land t y name) (sym h.result_is) ∙ ap (λ o. Land t (result_in o) name) (sym h.is) ∙ ap (landed p name) (sym has) ∙ ap (landed p name) (sym (piece_is (slice_get p.funcs w.func) b)) in
+    (own p (one w (Enter t c.locals es) (Some (block w.func b)) (head c.size (n + 1) (n + 1 + c.size))) w.func b (Calls t g es) refl has yes, all_append p (c.sites (w.chain ++ block w.func b ∷ []) w.scale (n + 1) (n + 1 + c.size)) (one w (Land t c.result name) None next ∷ []) (h.sites (w.chain ++ block w.func b ∷ []) w.scale (n + 1) (n + 1 + c.size)) (no_block p (one w (Land t c.result name) None next) refl lands, tt))
+
+-- a list goes on with a simple statement or with another one
+either_found : (p : Program) (whole : List Piece) (b : ℕ) (t : Bool) (xs ys : List Piece) (g h : List Site) → (Sits whole b xs → AllFound p g) → (t ≡ false → Sits whole b ys → AllFound p h) → Sits whole b (if t then xs else ys) → AllFound p (if t then g else h)
+either_found p whole b true xs ys g h f k s = f s
+either_found p whole b false xs ys g h f k s = k refl s
+
+mutual
+  unfolding flow row_flow held_flow pieces row_pieces held_pieces
+
+  flow_found : (p : Program) (cs : List Copy) (w : Position) (s : Stmt) (b n : ℕ) (k : Targets) → Over p w.func cs → Sits (pieces_of p w.func) b (pieces s) → AllFound p (flow cs w s b n k)
+  flow_found p cs w stmt.Empty b n k f h = tt
+  flow_found p cs w (stmt.Scalar l e) b n k f h = tt
+  flow_found p cs w (stmt.Array l es) b n k f h = tt
+  flow_found p cs w (stmt.Assign x o e) b n k f h = tt
+  flow_found p cs w (stmt.Call t g es) b n k f h = call_found p w g (slice_get cs g) t es b n k.next (callee p cs g f.copies) (reach cs g w.func f.count) (sits_first (pieces_of p w.func) b (Calls t g es) [] h)
+  flow_found p cs w stmt.Break b n k f h = (own p (one w Jump (Some (block w.func b)) k.breaks) w.func b Jumps refl (sits_first (pieces_of p w.func) b Jumps [] h) refl, tt)
+  flow_found p cs w stmt.Continue b n k f h = (own p (one w Jump (Some (block w.func b)) k.continues) w.func b Jumps refl (sits_first (pieces_of p w.func) b Jumps [] h) refl, tt)
+  flow_found p cs w (stmt.Return e) b n k f h = (own p (one w (Give e) (Some (block w.func b)) k.returns) w.func b (Gives e) refl (sits_first (pieces_of p w.func) b (Gives e) [] h) refl, tt)
+  flow_found p cs w (stmt.If' e a x d y) b n k f h =
+      let whole : List Piece = pieces_of p w.func in
+      let rest : Sits whole (b + 1) (row_pieces [] x ++ row_pieces [] y) = sits_rest whole b (Asks e) (row_pieces [] x ++ row_pieces [] y) h in
+      (own p (asks w None e (block w.func b) (head (row_size cs x false) (n + 1) k.next) (head (row_size cs y false) (n + 1 + row_size cs x false) k.next)) w.func b (Asks e) refl (sits_first whole b (Asks e) (row_pieces [] x ++ row_pieces [] y) h) refl, all_append p (row_flow cs w x (b + 1) (n + 1) [] k) (row_flow cs w y (b + 1 + row_blocks x false) (n + 1 + row_size cs x false) [] k) (row_found p cs w x (b + 1) (n + 1) [] k f (sits_front whole (b + 1) (row_pieces [] x) (row_pieces [] y) rest)) (row_found p cs w y (b + 1 + row_blocks x false) (n + 1 + row_size cs x false) [] k f (sits_back whole (b + 1) (b + 1 + row_blocks x false) (row_pieces [] x) (row_pieces [] y) (ap (λ m. b + 1 + m) (many_of x)) rest)))
+  flow_found p cs w (stmt.While' l e a x) b n k f h =
+      let whole : List Piece = pieces_of p w.func in
+      (own p (asks (times_as_often w (l + 1)) (Some (loop_at n (n + 1 + row_size cs x false) n l false)) e (block w.func b) (head (row_size cs x false) (n + 1) n) k.next) w.func b (Asks e) refl (sits_first whole b (Asks e) (row_pieces [] x) h) refl, row_found p cs (times_as_often w l) x (b + 1) (n + 1) [] (body_of k n) f (sits_rest whole b (Asks e) (row_pieces [] x) h))
+  flow_found p cs w (stmt.Do' l a x e) b n k f h =
+      let whole : List Piece = pieces_of p w.func in
+      let m : ℕ = row_size cs x false in
+      let last : Sits whole (b + row_blocks x false) (Asks e ∷ []) = sits_back whole b (b + row_blocks x false) (row_pieces [] x) (Asks e ∷ []) (ap (λ m. b + m) (many_of x)) h in
+      let site : Site = asks (times_as_often w l) (Some (loop_at n (n + m + 1) (n + m) l true)) e (block w.func (b + row_blocks x false)) n k.next in
+      all_append p (row_flow cs (times_as_often w l) x b n [] (body_of k (n + m))) (site ∷ []) (row_found p cs (times_as_often w l) x b n [] (body_of k (n + m)) f (sits_front whole b (row_pieces [] x) (Asks e ∷ []) h)) (own p site w.func (b + row_blocks x false) (Asks e) refl (sits_first whole (b + row_blocks x false) (Asks e) [] last) refl, tt)
+  flow_found p cs w (stmt.For' l i e j a x) b n k f h =
+      let whole : List Piece = pieces_of p w.func in
+      let bc : ℕ = b + held_blocks i in
+      let m : ℕ = n + held_size cs i in
+      let r : ℕ = held_size cs j in
+      let inside : Position = times_as_often w l in
+      let test : Sits whole bc (Asks e ∷ (held_pieces j ++ row_pieces [] x)) = sits_back whole b bc (held_pieces i) (Asks e ∷ (held_pieces j ++ row_pieces [] x)) (ap (λ m. b + m) (held_many i)) h in
+      let rest : Sits whole (bc + 1) (held_pieces j ++ row_pieces [] x) = sits_rest whole bc (Asks e) (held_pieces j ++ row_pieces [] x) test in
+      let site : Site = asks (times_as_often w (l + 1)) (Some (loop_at m (m + 1 + r + row_size cs x false) m l false)) e (block w.func bc) (head (row_size cs x false) (m + 1 + r) (head r (m + 1) m)) k.next in
+      let step : List Site = held_flow cs inside j (bc + 1) (m + 1) (with_next k m) in
+      let body : List Site = row_flow cs inside x (bc + 1 + held_blocks j) (m + 1 + r) [] (body_of k (head r (m + 1) m)) in
+      all_append p (held_flow cs w i b n (with_next k m)) (site ∷ (step ++ body)) (held_found p cs w i b n (with_next k m) f (sits_front whole b (held_pieces i) (Asks e ∷ (held_pieces j ++ row_pieces [] x)) h)) (own p site w.func bc (Asks e) refl (sits_first whole bc (Asks e) (held_pieces j ++ row_pieces [] x) test) refl, all_append p step body (held_found p cs inside j (bc + 1) (m + 1) (with_next k m) f (sits_front whole (bc + 1) (held_pieces j) (row_pieces [] x) rest)) (row_found p cs inside x (bc + 1 + held_blocks j) (m + 1 + r) [] (body_of k (head r (m + 1) m)) f (sits_back whole (bc + 1) (bc + 1 + held_blocks j) (held_pieces j) (row_pieces [] x) (ap (λ m. bc + 1 + m) (held_many j)) rest)))
+  flow_found p cs w (stmt.Group' a x) b n k f h = row_found p cs w x b n [] k f h
+
+  row_found : {m : _} (p : Program) (cs : List Copy) (w : Position) (x : Row_of-Stmt m) (b n : ℕ) (ss : List Stmt) (k : Targets) → Over p w.func cs → Sits (pieces_of p w.func) b (row_pieces ss x) → AllFound p (row_flow cs w x b n ss k)
+  row_found p cs w end_of-Stmt b n ss k f h = flush_found p w ss b k.next h
+  row_found p cs w (more_of-Stmt s rest) b n ss k f h =
+      let whole : List Piece = pieces_of p w.func in
+      let n1 : ℕ = past ss n in
+      let n2 : ℕ = n1 + size cs s false in
+      let after : ℕ = head (row_size cs rest false) n2 k.next in
+      let first : List Site = flush w ss (block w.func b) (head (size cs s false) n1 after) in
+      let second : List Site = flow cs w s (past ss b) n1 (with_next k after) in
+      let third : List Site = row_flow cs w rest (past ss b + blocks s false) n2 [] k in
+      either_found p whole b (is_simple s) (row_pieces (ss ++ s ∷ []) rest) (run_piece ss ++ (pieces s ++ row_pieces [] rest)) (row_flow cs w rest b n (ss ++ s ∷ []) k) (first ++ (second ++ third)) (λ g. row_found p cs w rest b n (ss ++ s ∷ []) k f g) (λ e g.
+      let later : Sits whole (past ss b) (pieces s ++ row_pieces [] rest) = sits_back whole b (past ss b) (run_piece ss) (pieces s ++ row_pieces [] rest) (past_by ss b) g in
+      all_append p first (second ++ third) (flush_found p w ss b (head (size cs s false) n1 after) (sits_front whole b (run_piece ss) (pieces s ++ row_pieces [] rest) g)) (all_append p second third (flow_found p cs w s (past ss b) n1 (with_next k after) f (sits_front whole (past ss b) (pieces s) (row_pieces [] rest) later)) (row_found p cs w rest (past ss b + blocks s false) n2 [] k f (sits_back whole (past ss b) (past ss b + blocks s false) (pieces s) (row_pieces [] rest) (ap (λ m. past ss b + m) (many s false e)) later)))) h
+
+  held_found : (p : Program) (cs : List Copy) (w : Position) (x : Held-Stmt-For-1) (b n : ℕ) (k : Targets) → Over p w.func cs → Sits (pieces_of p w.func) b (held_pieces x) → AllFound p (held_flow cs w x b n k)
+  held_found p cs w None' b n k f h = tt
+  held_found p cs w (Some' a x) b n k f h = row_found p cs w x b n [] k f h
+
+-- ---- functions
+
+list_found : (p : Program) (cs : List Copy) (w : Position) (xs : List Stmt) (b n : ℕ) (ss : List Stmt) (k : Targets) → Over p w.func cs → Sits (pieces_of p w.func) b (list_pieces ss xs) → AllFound p (list_flow cs w xs b n ss k)
+list_found p cs w [] b n ss k f h = flush_found p w ss b k.next h
+list_found p cs w (s ∷ rest) b n ss k f h =
+    let whole : List Piece = pieces_of p w.func in
+    let n1 : ℕ = past ss n in
+    let n2 : ℕ = n1 + size cs s false in
+    let after : ℕ = head (list_size cs rest false) n2 k.next in
+    let first : List Site = flush w ss (block w.func b) (head (size cs s false) n1 after) in
+    let second : List Site = flow cs w s (past ss b) n1 (with_next k after) in
+    let third : List Site = list_flow cs w rest (past ss b + blocks s false) n2 [] k in
+    either_found p whole b (is_simple s) (list_pieces (ss ++ s ∷ []) rest) (run_piece ss ++ (pieces s ++ list_pieces [] rest)) (list_flow cs w rest b n (ss ++ s ∷ []) k) (first ++ (second ++ third)) (λ g. list_found p cs w rest b n (ss ++ s ∷ []) k f g) (λ e g.
+    let later : Sits whole (past ss b) (pieces s ++ list_pieces [] rest) = sits_back whole b (past ss b) (run_piece ss) (pieces s ++ list_pieces [] rest) (past_by ss b) g in
+    all_append p first (second ++ third) (flush_found p w ss b (head (size cs s false) n1 after) (sits_front whole b (run_piece ss) (pieces s ++ list_pieces [] rest) g)) (all_append p second third (flow_found p cs w s (past ss b) n1 (with_next k after) f (sits_front whole (past ss b) (pieces s) (list_pieces [] rest) later)) (list_found p cs w rest (past ss b + blocks s false) n2 [] k f (sits_back whole (past ss b) (past ss b + blocks s false) (pieces s) (list_pieces [] rest) (ap (λ m. past ss b + m) (many s false e)) later)))) h
+
+-- the function number k of the program
+copy_found : (p : Program) (cs : List Copy) (k : ℕ) (f : Func) → Over p k cs → slice_get p.funcs k ≡ Some f → FoundCopy p k (copy_of k f cs)
+copy_found p cs k f h is = record {
+  func = f;
+  is = is;
+  locals_are = refl;
+  result_is = refl;
+  sites = λ chain scale n landing. list_found p cs (record { func = k; chain = chain; scale = scale }) f.body 0 n [] (all_to landing) h (record { each = λ j x has. ap (slice_get (pieces_of p k)) (plain_sum j) ∙ (ap (λ o. slice_get (pieces_in o) j) is ∙ has) });
+}
+  where
+    plain_sum : (j : ℕ) → 0 + j ≡ j
+    plain_sum j = omega arith
+
+-- the functions from here on are those of the program after the copies
+pub record FollowOn (p : Program) (n : ℕ) (fs : List Func) : Type 0 where
+  pub each : (j : ℕ) (f : Func) → slice_get fs j ≡ Some f → slice_get p.funcs (n + j) ≡ Some f
+
+copies_found : (p : Program) (cs : List Copy) (fs : List Func) → FoundCopies p 0 cs → FollowOn p (length cs) fs → FoundCopies p 0 (copies cs fs)
+copies_found p cs [] h f = h
+copies_found p cs (x ∷ fs) h f =
+    let c : Copy = copy_of (length cs) x cs in
+    copies_found p (cs ++ c ∷ []) fs (copies_append p 0 cs c h (subst (λ k. FoundCopy p k c) (plain (length cs)) (copy_found p cs (length cs) x (record { copies = h; count = refl }) (ap (slice_get p.funcs) (none (length cs)) ∙ f.each 0 x refl)))) (record { each = λ j y is. ap (slice_get p.funcs) (next (length cs) j (length (cs ++ c ∷ [])) (length-append cs (c ∷ []))) ∙ f.each (suc j) y is })
+  where
+    plain : (n : ℕ) → n ≡ 0 + n
+    plain n = omega arith
+
+    none : (n : ℕ) → n ≡ n + 0
+    none n = omega arith
+
+    next : (n j m : ℕ) → m ≡ n + 1 → m + j ≡ n + suc j
+    next n j m e = omega arith
+
+all_copies : (p : Program) → FoundCopies p 0 (copies [] p.funcs)
+all_copies p = copies_found p [] p.funcs tt (record { each = λ j f is. ap (slice_get p.funcs) (plain_sum j) ∙ is })
+  where
+    plain_sum : (j : ℕ) → 0 + j ≡ j
+    plain_sum j = omega arith
+
+-- ---- nodes
+
+named_by : (p : Program) (s : Site) (b : BlockName) → Found p s → s.node.block ≡ Some b → loopless s.content ≡ block_content p b.func (piece_at p b.func b.number)
+named_by p s b f is = f.named b.func b.number is ∙ ap (block_content p b.func) (sym (piece_is (slice_get p.funcs b.func) b.number))
+
+-- a landing, and a call that is not there, are told whole
+whole : (p : Program) (c : Option BlockName) → loopless (landing_content p c) ≡ landing_content p c
+whole p None = refl
+whole p (Some b) = by (piece_at p b.func b.number)
+  where
+    by : (o : Option Piece) → loopless (landed p b o) ≡ landed p b o
+    by None = refl
+    by (Some (Run ss)) = refl
+    by (Some (Asks e)) = refl
+    by (Some Jumps) = refl
+    by (Some (Gives e)) = refl
+    by (Some (Calls t g es)) = refl
+
+told_later : (p : Program) (n : ℕ) (s : Site) → Found p s → Told p (suc (suc n)) s
+told_later p n s f = record {
+  named = λ b is. named_by p s b f is;
+  bare = λ is. ap loopless (f.bare is) ∙ whole p (call_of s.content);
+}
+
+no_name : (b : BlockName) → None ≡ Some b → ⊥
+no_name b h = absurd (cc)
+
+told_in : (p : Program) (c : Copy) (n : ℕ) (s : Site) → AllFound p (c.sites [] 1 2 1) → slice_get (sites_of (Some c)) n ≡ Some s → Told p n s
+told_in p c zero s h is =
+    let site : Site = one outermost Entry None (head c.size 2 1) in
+    let same : site ≡ s = cc in
+    subst (Told p 0) same (record { named = λ b e. absurd (no_name b e); bare = λ e. refl })
+told_in p c (suc zero) s h is =
+    let site : Site = one outermost Exit None 1 in
+    let same : site ≡ s = cc in
+    subst (Told p 1) same (record { named = λ b e. absurd (no_name b e); bare = λ e. refl })
+told_in p c (suc (suc n)) s h is = told_later p n s (found_at p (c.sites [] 1 2 1) h n s is)
+
+entry_copy : (p : Program) (k : ℕ) (o : Option Copy) (c : Copy) → o ≡ Some c → FoundOne p k o → FoundCopy p k c
+entry_copy p k o c is h = subst (FoundOne p k) is h
+
+pub told : (p : Program) (n : ℕ) (s : Site) → p.entry < length p.funcs → slice_get (graph p) n ≡ Some s → Told p n s
+unfolding graph
+told p n s within is =
+    let e = entered p within in
+    let f = entry_copy p p.entry (slice_get (copies [] p.funcs) p.entry) e.copy e.is (callee p (copies [] p.funcs) p.entry (all_copies p)) in
+    told_in p e.copy n s (f.sites [] 1 2 1) (ap (λ o. slice_get (sites_of o) n) (sym e.is) ∙ is)

@@ -1,0 +1,6 @@
+pub mod PieceLayers
+mod Gathered
+pub mod Found
+mod Tabled
+mod Telling
+mod Acting
