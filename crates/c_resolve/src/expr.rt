@@ -6,53 +6,15 @@ ghost use Rattle.std.specs.Option.{option_map_or};
 ghost use Rattle.c_tree.specs.Naming.{optional, kept_numbers, shape_values};
 ghost use Rattle.c_tree.specs.Uses.{Read, expr_uses, exprs_uses, optional_uses, constant_uses, length_uses, list_uses, constants_uses};
 ghost use Rattle.c_tree.specs.Scopes as scope;
-ghost use Rattle.c_tree.specs.Scopes.{variable};
+ghost use Rattle.c_tree.specs.declared.unit.RawExpr.TheVariants as raw;
 ghost use Rattle.c_names.specs.Tables.{entity_of};
 ghost use Rattle.c_faults.specs.Verdicts.{after_use, after_uses};
 
 use c_faults::Verdict;
 use c_names::{Entity, Names};
-use c_tree::{BinOp, Expr, NoMemory, RawExpr, RawShape, Spot, Ty, UnOp, Value};
+use c_tree::{BinOp, Expr, NoMemory, RawExpr, RawShape, Spot, Ty, Value};
 use sqlite_items::{Boxed, Items};
 use std::alloc::Global;
-
-fn element(alloc: Global, entity: Option<Entity>, i: Expr) -> Result<Expr, NoMemory>
-    ensures { IfOk result (λ x. x ≡ Expr.Elem (variable (option_map entity_of entity)) i) }
-{
-    let i = Boxed::new(alloc, i)?;
-    Ok(Expr::Elem(Entity::variable(entity), i))
-}
-
-fn unary(alloc: Global, op: UnOp, a: Expr) -> Result<Expr, NoMemory>
-    ensures { IfOk result (λ x. x ≡ Expr.Un op a) }
-{
-    let a = Boxed::new(alloc, a)?;
-    Ok(Expr::Un(op, a))
-}
-
-fn cast(alloc: Global, ty: Ty, a: Expr) -> Result<Expr, NoMemory>
-    ensures { IfOk result (λ x. x ≡ Expr.Cast ty a) }
-{
-    let a = Boxed::new(alloc, a)?;
-    Ok(Expr::Cast(ty, a))
-}
-
-fn binary(alloc: Global, op: BinOp, a: Expr, b: Expr) -> Result<Expr, NoMemory>
-    ensures { IfOk result (λ x. x ≡ Expr.Bin op a b) }
-{
-    let a = Boxed::new(alloc, a)?;
-    let b = Boxed::new(alloc, b)?;
-    Ok(Expr::Bin(op, a, b))
-}
-
-fn choice(alloc: Global, c: Expr, a: Expr, b: Expr) -> Result<Expr, NoMemory>
-    ensures { IfOk result (λ x. x ≡ Expr.Cond c a b) }
-{
-    let c = Boxed::new(alloc, c)?;
-    let a = Boxed::new(alloc, a)?;
-    let b = Boxed::new(alloc, b)?;
-    Ok(Expr::Cond(c, a, b))
-}
 
 // What a name that is read stands for, and whether an index follows it.
 fn read(names: &Names, verdict: &mut Verdict, x: &Spot, indexed: bool) -> Option<Entity>
@@ -65,6 +27,7 @@ fn read(names: &Names, verdict: &mut Verdict, x: &Spot, indexed: bool) -> Option
 }
 
 /// An expression with its names replaced.
+#[cycle(exprs)]
 #[tactic(auto, using(c_constants::proofs::ConstantLayers::expr_layers, crate::proofs::UseLayers::expr_use_layers, c_faults::proofs::Heard::heard))]
 pub(crate) fn expr(
     alloc: Global,
@@ -81,26 +44,85 @@ pub(crate) fn expr(
             let entity = read(names, verdict, x, false);
             Ok(Expr::Name(Entity::variable(entity)))
         }
-        RawExpr::Elem(x, i) => {
-            let entity = read(names, verdict, x, true);
-            let i = expr(alloc, names, verdict, i.get())?;
-            element(alloc, entity, i)
-        }
-        RawExpr::Un(_, op, a) => unary(alloc, *op, expr(alloc, names, verdict, a.get())?),
-        RawExpr::Cast(_, ty, a) => cast(alloc, *ty, expr(alloc, names, verdict, a.get())?),
-        RawExpr::Bin(op, a, b) => {
-            let a = expr(alloc, names, verdict, a.get())?;
-            let b = expr(alloc, names, verdict, b.get())?;
-            binary(alloc, *op, a, b)
-        }
-        RawExpr::Cond(c, a, b) => {
-            let c = expr(alloc, names, verdict, c.get())?;
-            let a = expr(alloc, names, verdict, a.get())?;
-            let b = expr(alloc, names, verdict, b.get())?;
-            choice(alloc, c, a, b)
-        }
+        RawExpr::Elem(x, i) => element(alloc, names, verdict, x, i),
+        RawExpr::Un(_, op, a) => Ok(Expr::Un(*op, boxed(alloc, names, verdict, a)?)),
+        RawExpr::Cast(_, ty, a) => Ok(Expr::Cast(*ty, boxed(alloc, names, verdict, a)?)),
+        RawExpr::Bin(op, a, b) => binary(alloc, names, verdict, *op, a, b),
+        RawExpr::Cond(c, a, b) => choice(alloc, names, verdict, c, a, b),
         RawExpr::Paren(_, a) => expr(alloc, names, verdict, a.get()),
     }
+}
+
+// An expression inside another.
+#[cycle(exprs)]
+fn boxed(
+    alloc: Global,
+    names: &Names,
+    verdict: &mut Verdict,
+    e: &Boxed<RawExpr>,
+) -> Result<Boxed<Expr>, NoMemory>
+    ensures tree { IfOk result (λ x. x ≡ spec.expr_of names.now e.now) }
+    ensures first { OnOk result (verdict.new ≡ after_uses verdict.old (expr_uses names.now e.now)) }
+{
+    let e = expr(alloc, names, verdict, e.get())?;
+    Ok(Boxed::new(alloc, e)?)
+}
+
+// An element of an array.
+#[cycle(exprs)]
+#[tactic(auto, using(c_constants::proofs::ConstantLayers::expr_layers, crate::proofs::UseLayers::expr_use_layers, c_faults::proofs::Heard::heard))]
+fn element(
+    alloc: Global,
+    names: &Names,
+    verdict: &mut Verdict,
+    x: &Spot,
+    i: &Boxed<RawExpr>,
+) -> Result<Expr, NoMemory>
+    ensures tree { IfOk result (λ t. t ≡ spec.expr_of names.now (raw.Elem x.now i.now)) }
+    ensures first { OnOk result (verdict.new ≡ after_uses verdict.old (expr_uses names.now (raw.Elem x.now i.now))) }
+{
+    let entity = read(names, verdict, x, true);
+    let i = boxed(alloc, names, verdict, i)?;
+    Ok(Expr::Elem(Entity::variable(entity), i))
+}
+
+// An operator with two operands.
+#[cycle(exprs)]
+#[tactic(auto, using(c_constants::proofs::ConstantLayers::expr_layers, crate::proofs::UseLayers::expr_use_layers, c_faults::proofs::Heard::heard))]
+fn binary(
+    alloc: Global,
+    names: &Names,
+    verdict: &mut Verdict,
+    op: BinOp,
+    a: &Boxed<RawExpr>,
+    b: &Boxed<RawExpr>,
+) -> Result<Expr, NoMemory>
+    ensures tree { IfOk result (λ x. x ≡ spec.expr_of names.now (raw.Bin op a.now b.now)) }
+    ensures first { OnOk result (verdict.new ≡ after_uses verdict.old (expr_uses names.now (raw.Bin op a.now b.now))) }
+{
+    let a = boxed(alloc, names, verdict, a)?;
+    let b = boxed(alloc, names, verdict, b)?;
+    Ok(Expr::Bin(op, a, b))
+}
+
+// A choice by a condition.
+#[cycle(exprs)]
+#[tactic(auto, using(c_constants::proofs::ConstantLayers::expr_layers, crate::proofs::UseLayers::expr_use_layers, c_faults::proofs::Heard::heard))]
+fn choice(
+    alloc: Global,
+    names: &Names,
+    verdict: &mut Verdict,
+    c: &Boxed<RawExpr>,
+    a: &Boxed<RawExpr>,
+    b: &Boxed<RawExpr>,
+) -> Result<Expr, NoMemory>
+    ensures tree { IfOk result (λ x. x ≡ spec.expr_of names.now (raw.Cond c.now a.now b.now)) }
+    ensures first { OnOk result (verdict.new ≡ after_uses verdict.old (expr_uses names.now (raw.Cond c.now a.now b.now))) }
+{
+    let c = boxed(alloc, names, verdict, c)?;
+    let a = boxed(alloc, names, verdict, a)?;
+    let b = boxed(alloc, names, verdict, b)?;
+    Ok(Expr::Cond(c, a, b))
 }
 
 /// A list of expressions.
