@@ -9,6 +9,8 @@ mod law;
 mod sound;
 
 pub use caps::{caps_bound, caps_box};
-pub use law::{bound_by_caps, bound_by_caps_is_dual, driven_paths_are_counted, kept_paths_are_counted, one_optimum};
-pub use law::{path_counts_meet_rows, worked_rows};
+pub use law::{
+    bound_by_caps, bound_by_caps_is_dual, driven_paths_are_counted, kept_paths_are_counted,
+    one_optimum, path_counts_meet_rows, worked_rows,
+};
 pub use sound::{SoundRow, SoundRows, rows};

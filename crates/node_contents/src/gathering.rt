@@ -48,10 +48,7 @@ fn put_run<'p>(run: &'p [Stmt], out: &mut Items<Block<'p>>) -> Result<(), NoMemo
 
 // The blocks of a list.
 #[cycle(gather)]
-fn gather_list<'p>(
-    list: &'p [Stmt],
-    out: &mut Items<Block<'p>>,
-) -> Result<(), NoMemory>
+fn gather_list<'p>(list: &'p [Stmt], out: &mut Items<Block<'p>>) -> Result<(), NoMemory>
     ensures { IfOk result (λ u. map what out.new ≡ map what out.old ++ list_pieces [] list.now) }
 {
     let mut begun = 0;

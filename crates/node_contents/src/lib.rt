@@ -2,10 +2,10 @@
 #![tactic(auto)]
 
 mod block;
-mod table;
 mod gathering;
 mod law;
+mod table;
 
 pub use block::Content;
-pub use table::{Contents, contents_of};
 pub use law::{acting_needs_no_loop, blocks_are_found};
+pub use table::{Contents, contents_of};

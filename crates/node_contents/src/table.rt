@@ -127,7 +127,11 @@ impl<'p> Contents<'p> {
             return Content::Missing;
         };
         match self.block(name) {
-            Some(Block::Call(target, callee, _)) => Content::Land(target, self.result(callee), name),
+            Some(Block::Call(target, callee, _)) => Content::Land(
+                target,
+                self.result(callee),
+                name,
+            ),
             _ => Content::Missing,
         }
     }

@@ -12,10 +12,10 @@ pub returns-clause-sound : goal.returns-clause-sound
 returns-clause-sound c =
     let rows = c.self.inside.rows.rows in
     let own : AreSoundRows (record { plan = c.self.inside.plan.now; rows = rows; costs = c.self.inside.objective.costs }) =
-        record {
-          hold = c.self.invariant.hold;
-          below = subst (λ n. All (λ (row : Row). NamesBelow n row.terms) rows) c.self.invariant.edges_are c.self.inside.rows.below;
-          once = c.self.inside.rows.once;
-          costs_are = c.self.invariant.costs_are;
-        } in
+    record {
+      hold = c.self.invariant.hold;
+      below = subst (λ n. All (λ (row : Row). NamesBelow n row.terms) rows) c.self.invariant.edges_are c.self.inside.rows.below;
+      once = c.self.inside.rows.once;
+      costs_are = c.self.invariant.costs_are;
+    } in
     subst AreSoundRows c.self.view_is own
