@@ -8,7 +8,7 @@ use Rattle.c_tree.specs.WellFormed.{WellFormed}
 use Rattle.flow_laws.specs.declared.graph.Edge.{Edge}
 use Rattle.flow_laws.specs.Sites.{Site}
 use Rattle.flow_laws.specs.Graphs.{graph, edges, loops}
-use Rattle.flow_laws.specs.Paths.{IsPath, KeepsEach, count, cost_of_edge, price, worth_of}
+use Rattle.flow_laws.specs.Paths.{IsPath, KeepsEach, count, cost_of_edge, worth_of}
 use Rattle.flow_laws.specs.Claims.{IsDriven}
 use Rattle.flow_laws.proofs.KeptCaps.{kept_capped}
 use Rattle.flow_laws.proofs.Totals.{price_by_counts}
@@ -17,7 +17,7 @@ use Rattle.lin_rows.specs.Vectors.{cost_by}
 use Rattle.ipet_rows.specs.CapsBound.{cap_of_edge, costs_of_edges, caps_of_edges}
 use Rattle.ipet_rows.specs.Counts.{counts_from, counts}
 use Rattle.ipet_rows.specs.Counted.{IsCounted}
-use Rattle.ipet_rows.specs.Optimum.{MeetFlowRows, IpetOptimum}
+use Rattle.ipet_rows.specs.Optimum.{IpetOptimum}
 use Rattle.ipet_rows.proofs.PathCounts.{kept_met}
 
 counts_long : (q : List ℕ) (i : ℕ) (es : List Edge) → length (counts_from q i es) ≡ length es

@@ -1,6 +1,6 @@
 -- What a node of a program's graph does is found by the name of its block, and of a landing by that of its call.
 use Rattle.std.proofs.Common.{◌≡◌, ◌<◌, ◌≤◌, ℕ, zero, suc, ◌+◌, Bool, true, false, if◌then◌else◌, List, [], ◌∷◌, ◌++◌, length, Option, Some, None, refl, sym, ap, ◌∙◌, subst, arith}
-use Rattle.std.specs.Prelude.{slice_get, nat_lt}
+use Rattle.std.specs.Prelude.{slice_get}
 use Rattle.std.proofs.lemmas.Bool.{lt-ltb, le-ltb}
 use Rattle.std.proofs.lemmas.List.{length-append}
 use Rattle.c_tree.specs.declared.tree.Expr.{Expr}
@@ -17,7 +17,7 @@ use Rattle.flow_laws.specs.Graphs.{copies, copy_of, sites_of, graph, all_to, out
 use Rattle.flow_graph.specs.Spots.{call_of}
 use Rattle.flow_graph.proofs.Measured.{entered}
 use Rattle.node_contents.specs.Pieces.{Piece, Run, Asks, Jumps, Gives, Calls, run_piece, pieces, row_pieces, held_pieces, list_pieces, func_pieces, piece_in, piece_at}
-use Rattle.node_contents.specs.Contents.{plain as loopless, entered as called, block_content, result_in, landed, landing_content, bare_content, Told}
+use Rattle.node_contents.specs.Contents.{plain as loopless, entered as called, block_content, result_in, landed, landing_content, Told}
 
 -- the blocks of a function of the program
 abbrev pieces_in : Option Func → List Piece

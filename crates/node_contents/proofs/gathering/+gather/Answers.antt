@@ -1,4 +1,4 @@
-use Rattle.std.proofs.Common.{◌≡◌, ◌<◌, ◌≤◌, ◌+◌, ◌∙◌, map, length, sym, arith}
+use Rattle.std.proofs.Common.{◌<◌, ◌∙◌, map, length, sym, arith}
 use Rattle.node_contents.specs.Pieces.{what}
 use Rattle.node_contents.proofs.Gathered.{simple_step, if_pieces, while_pieces, do_pieces, for_pieces}
 use Rattle.node_contents.proofs.gathering.+gather.Goals as goal
