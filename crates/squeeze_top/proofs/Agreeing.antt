@@ -16,16 +16,17 @@ use Rattle.c_tree.specs.Refusals.{Typed, faults}
 use Rattle.c_check.specs.Answers.{told}
 use Rattle.cost_table.specs.Tables.{verdict}
 use Rattle.flow_laws.specs.Graphs.{graph}
-use Rattle.flow_graph.specs.Limits.{refusal as plan_refusal}
+use Rattle.flow_graph.specs.Limits.{block_copies, refusal as plan_refusal}
+use Rattle.ipet_rows.proofs.Counting.{one_number}
 use Rattle.squeeze_top.specs.declared.words.Mode.{Mode}
 use Rattle.squeeze_top.specs.declared.words.Mode.TheVariants as mode
-use Rattle.squeeze_top.specs.declared.words.Mode.TheVariants.{Bound, Run}
+use Rattle.squeeze_top.specs.declared.words.Mode.TheVariants.{Bound, Ipet, Run}
 use Rattle.squeeze_top.specs.declared.refusal.Refusal.{Refusal}
 use Rattle.squeeze_top.specs.declared.refusal.Refusal.TheVariants.{Words, Size, Tokens, Parse, Check, Input, TableSize, Table, Blocks, Edges, Cap}
 use Rattle.squeeze_top.specs.declared.status.Status.TheVariants as status
 use Rattle.squeeze_top.specs.Words.{Request}
 use Rattle.squeeze_top.specs.Accepted.{IsRead, IsAccepted, RefusesText}
-use Rattle.squeeze_top.specs.Answers.{run_line, IsAnswer}
+use Rattle.squeeze_top.specs.Answers.{bound_line, ipet_lines, run_line, IsAnswer}
 use Rattle.squeeze_top.specs.Refusing.{RefusesPlan, HasNoPlan, HasProgram, HasInput, ArePricedBy, HasCosts, IsAnswered, IsServed, Refuses}
 use Rattle.squeeze_top.specs.Statuses.{status_of}
 
@@ -113,7 +114,9 @@ bad_priced (Some name) told p t fault some h bad =
 -- ---- answers
 
 same_answer : OneInput → (m : Mode) (p : Program) (t : Costs) (input a b : List ℕ) → IsAnswer m p t input a → IsAnswer m p t input b → a ≡ b
-same_answer one Bound p t input a b h k = h.line ∙ sym k.line
+same_answer one Bound p t input a b h k = h.line ∙ (ap bound_line (one_number p t h.bound k.bound h.optimum k.optimum) ∙ sym k.line)
+same_answer one Ipet p t input a b h k =
+    h.lines ∙ (ap (ipet_lines (block_copies (graph p))) (one_number p t h.bound k.bound h.optimum k.optimum) ∙ sym k.lines)
 same_answer one mode.Print p t input a b h k = h.lines ∙ sym k.lines
 same_answer one mode.Blocks p t input a b h k = h ∙ sym k
 same_answer one Run p t input a b h k =
@@ -130,6 +133,7 @@ one_answer one input r told a b some h k =
 
 answered_input : (m : Mode) (p : Program) (t : Costs) (input text : List ℕ) → IsAnswer m p t input text → m ≡ Run → (i : Inputs) × IsTrue (fits p i) × (input_text p i ≡ input)
 answered_input Bound p t input text h run = absurd (cc)
+answered_input Ipet p t input text h run = absurd (cc)
 answered_input mode.Blocks p t input text h run = absurd (cc)
 answered_input mode.Print p t input text h run = absurd (cc)
 answered_input Run p t input text h run = (h.values, h.fitting, h.spelled)

@@ -9,10 +9,9 @@ use Rattle.c_tree.specs.Runs.{fits, run}
 use Rattle.c_tree.specs.Claims.{Above}
 use Rattle.c_tree.specs.Checked.{IsSpelled}
 use Rattle.c_tree.specs.Refusals.{Typed}
-use Rattle.tree_bound.specs.Loops.{has_loop}
-use Rattle.tree_bound.specs.Dear.{bound_of}
 use Rattle.flow_laws.specs.Graphs.{graph}
-use Rattle.ipet_rows.specs.CapsBound.{caps_bound}
+use Rattle.flow_graph.specs.Limits.{block_copies}
+use Rattle.ipet_rows.specs.Optimum.{IpetOptimum}
 use Rattle.c_run.specs.declared.run_end.RunEnd.{RunEnd}
 use Rattle.c_run.specs.declared.run_end.RunEnd.TheVariants.{Ends, Undefined, OverBound}
 use Rattle.c_run.specs.Ends.{ended}
@@ -20,7 +19,7 @@ use Rattle.c_input.specs.InputTexts.{input_text}
 use Rattle.print_laws.specs.Again.{IsReadAs}
 use Rattle.print_laws.specs.Printed.{printed}
 use Rattle.squeeze_top.specs.declared.words.Mode.{Mode}
-use Rattle.squeeze_top.specs.declared.words.Mode.TheVariants.{Bound, Blocks, Run, Print}
+use Rattle.squeeze_top.specs.declared.words.Mode.TheVariants.{Bound, Ipet, Blocks, Run, Print}
 
 abbrev pub bound_line : ℕ → List ℕ
 bound_line n = codes "bound " ++ decimal n ++ codes "\n"
@@ -41,14 +40,22 @@ block_lines [] rows = []
 block_lines (f ∷ fs) [] = []
 block_lines (f ∷ fs) (row ∷ rows) = func_lines f.name 0 row ++ block_lines fs rows
 
--- the bound by recursion over the trees, or for a program with a loop what all edges of the flat graph cost at their caps
-abbrev pub bound_number : Program → Costs → ℕ
-bound_number p t = if has_loop p then caps_bound t (graph p) else bound_of p t
-
--- the text is the line of the bound, which no run exceeds
+-- the text is the line of the optimum of implicit path enumeration, which no run exceeds
 pub record TellsBound (p : Program) (t : Costs) (text : List ℕ) : Type 0 where
-  pub line : text ≡ bound_line (bound_number p t)
-  pub above : Above p t (bound_number p t)
+  pub bound : ℕ
+  pub optimum : IpetOptimum p t bound
+  pub above : Above p t bound
+  pub line : text ≡ bound_line bound
+
+abbrev pub ipet_lines : ℕ → ℕ → List ℕ
+ipet_lines copies n = codes "blocks " ++ decimal copies ++ codes "\nipet " ++ decimal n ++ codes "\n"
+
+-- the text tells how many block copies the flat graph has, and the optimum, which no run exceeds
+pub record TellsPeak (p : Program) (t : Costs) (text : List ℕ) : Type 0 where
+  pub bound : ℕ
+  pub optimum : IpetOptimum p t bound
+  pub above : Above p t bound
+  pub lines : text ≡ ipet_lines (block_copies (graph p)) bound
 
 abbrev pub run_line : RunEnd → List ℕ
 run_line (Ends cost) = codes "ends " ++ decimal cost ++ codes "\n"
@@ -69,6 +76,7 @@ pub record TellsProgram (p : Program) (text : List ℕ) : Type 0 where
 
 abbrev pub IsAnswer : Mode → Program → Costs → List ℕ → List ℕ → Type 0
 IsAnswer Bound p t input text = TellsBound p t text
+IsAnswer Ipet p t input text = TellsPeak p t text
 IsAnswer Blocks p t input text = text ≡ block_lines p.funcs t.by_func
 IsAnswer Run p t input text = TellsRun p t input text
 IsAnswer Print p t input text = TellsProgram p text

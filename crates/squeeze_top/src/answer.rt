@@ -9,16 +9,17 @@ use c_print::print;
 use c_run::{RunEnd, run};
 use c_tree::{Func, Input, NoMemory};
 use flow_graph::Plan;
-use ipet_rows::caps_bound;
+use ipet_peak::peak;
 use itoa::Buffer;
+use peak_laws::optimum_is_above;
 use sqlite_items::Items;
 use std::alloc::{AllocError, Global};
-use tree_bound::{bound_is_above, bound_of, has_loop};
 
 /// What is to be done with a program.
 #[derive(Drop)]
 pub(crate) enum Task {
     Bound,
+    Ipet,
     Blocks,
     Run(Input),
     Print,
@@ -33,6 +34,7 @@ pub(crate) fn text_of_task(alloc: Global, task: &Task, plan: &Plan) -> Result<Ve
     let costs = plan.costs();
     match task {
         Task::Bound => bound_answer(alloc, plan),
+        Task::Ipet => ipet_answer(alloc, plan),
         Task::Blocks => {
             let funcs = program.funcs.as_slice();
             Ok(block_lines(alloc, funcs, costs.by_func.as_slice())?)
@@ -48,14 +50,29 @@ pub(crate) fn text_of_task(alloc: Global, task: &Task, plan: &Plan) -> Result<Ve
 fn bound_answer(alloc: Global, plan: &Plan) -> Result<Vec<u8>, NoMemory>
     ensures { IfOk result (λ text. spec.TellsBound plan.now.program plan.now.costs text.items) }
 {
-    bound_is_above();
-    let program = plan.program();
-    let bound = if has_loop(program) {
-        caps_bound(plan)
-    } else {
-        bound_of(alloc, program, plan.costs())?
-    };
-    Ok(bound_line(alloc, bound)?)
+    optimum_is_above();
+    let peak = peak(alloc, plan)?;
+    Ok(bound_line(alloc, peak.value)?)
+}
+
+fn ipet_answer(alloc: Global, plan: &Plan) -> Result<Vec<u8>, NoMemory>
+    ensures { IfOk result (λ text. spec.TellsPeak plan.now.program plan.now.costs text.items) }
+{
+    optimum_is_above();
+    let peak = peak(alloc, plan)?;
+    Ok(ipet_lines(alloc, plan.copies(), peak.value)?)
+}
+
+fn ipet_lines(alloc: Global, copies: u32, bound: u128) -> Result<Vec<u8>, AllocError>
+    ensures { IfOk result (λ lines. lines.items ≡ spec.ipet_lines copies bound) }
+{
+    let mut buffer = Buffer::new();
+    let mut lines = Vec::from_slice(alloc, b"blocks ")?;
+    lines.extend_from_slice(buffer.format(copies).as_bytes())?;
+    lines.extend_from_slice(b"\nipet ")?;
+    lines.extend_from_slice(buffer.format(bound).as_bytes())?;
+    lines.extend_from_slice(b"\n")?;
+    Ok(lines)
 }
 
 fn bound_line(alloc: Global, bound: u128) -> Result<Vec<u8>, AllocError>

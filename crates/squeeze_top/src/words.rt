@@ -8,6 +8,8 @@ ghost use Rattle.squeeze_top.specs.Words as spec;
 pub(crate) enum Mode {
     /// Bound its program.
     Bound,
+    /// Count its block copies, and bound it.
+    Ipet,
     /// List the blocks of its program with their costs.
     Blocks,
     /// Run its program on an input.
@@ -64,6 +66,7 @@ fn mode_of(word: &str) -> Option<Mode>
 {
     match word {
         "bound" => Some(Mode::Bound),
+        "ipet" => Some(Mode::Ipet),
         "blocks" => Some(Mode::Blocks),
         "run" => Some(Mode::Run),
         "print" => Some(Mode::Print),

@@ -57,6 +57,7 @@ fn task_of(alloc: Global, job: &Job, program: &Program) -> Result<Task, Halt>
 {
     match job.mode {
         Mode::Bound => Ok(Task::Bound),
+        Mode::Ipet => Ok(Task::Ipet),
         Mode::Blocks => Ok(Task::Blocks),
         Mode::Run => match read_input(alloc, program, job.input)? {
             Some(input) => Ok(Task::Run(input)),

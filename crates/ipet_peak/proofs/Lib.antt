@@ -1,0 +1,9 @@
+pub mod TreeLayers
+pub mod Pushed
+pub mod PushedPotentials
+pub mod Supplies
+pub mod PushedFlows
+pub mod PartLayers
+pub mod PartSteps
+pub mod Grown
+pub mod PlanRoom

@@ -1,0 +1,53 @@
+-- A plan's part has room: it costs little, reaches little above what is ahead, and no node of it can be reached more than 2^40 times.
+use Rattle.std.proofs.Common.{◌≡◌, ◌≤◌, ℕ, zero, suc, ◌+◌, ◌*◌, ◌^◌, List, [], ◌∷◌, None, sym, subst, arith}
+use Rattle.std.specs.Prelude.{slice_get, Result, Ok, Err, IfOk}
+use Rattle.std.proofs.Math.Nat.{mul-le-mul_left}
+use Rattle.c_tree.specs.declared.program.Costs.{Costs}
+use Rattle.c_tree.specs.declared.program.Program.{Program}
+use Rattle.c_tree.specs.WellFormed.{WellFormed}
+use Rattle.flow_laws.specs.Sites.{Site}
+use Rattle.flow_laws.specs.Graphs.{graph}
+use Rattle.flow_laws.specs.Paths.{cap_of}
+use Rattle.flow_graph.specs.Limits.{refusal}
+use Rattle.flow_graph.proofs.Tame.{AllWithin}
+use Rattle.flow_graph.proofs.Measured.{all_within, entered, limits}
+use Rattle.ipet_rows.specs.CapsBound.{caps_bound}
+use Rattle.peak_laws.specs.Parts.{Part}
+use Rattle.peak_laws.specs.ProgramParts.{program_part}
+use Rattle.peak_laws.specs.Hefts.{heft, loop_count, reach, EachMost, node_caps}
+use Rattle.ipet_peak.specs.Trees.{Fit}
+use Rattle.peak_laws.proofs.Places.{Agrees}
+use Rattle.peak_laws.proofs.Hefts.{reach_most}
+use Rattle.peak_laws.proofs.DualFits.{is_small}
+use Rattle.peak_laws.proofs.Programs.{program_shaped}
+
+cap_within : (g : List Site) (v : ℕ) → AllWithin (2 ^ 40) g → cap_of (slice_get g v) ≤ 2 ^ 40
+cap_within [] v h = omega arith
+cap_within (s ∷ g) zero h = h.0
+cap_within (s ∷ g) (suc v) h = cap_within g v h.1
+
+each_within : (f : ℕ → ℕ) (x n : ℕ) (ns : List ℕ) → ((v : ℕ) → f v ≤ x) → Agrees f n ns → EachMost x ns
+each_within f x n [] most h = tt
+each_within f x n (c ∷ ns) most h = (subst (λ z. z ≤ x) h.0 (most n), each_within f x (n + 1) ns most h.1)
+
+pub record HasRoom (q : Part) : Type 0 where
+  pub light : heft q ≤ 2 ^ 124
+  pub room : reach q ≤ 2 ^ 124
+  pub fit : Fit q 1
+
+pub plan_room : (p : Program) (t : Costs) (q : Part) → WellFormed p → caps_bound t (graph p) ≤ 2 ^ 97 → refusal (graph p) ≡ None → q ≡ program_part p t → HasRoom q
+plan_room p t q formed caps allowed is =
+    let o = program_part p t in
+    let g = graph p in
+    let small = is_small p t formed caps allowed in
+    let all : loop_count o * heft o ≤ 2048 * 2 ^ 97 = omega (arith, mul-le-mul_left (loop_count o) small.heft, small.loops) in
+    let within = all_within p (entered p formed.entry) (limits g allowed).caps in
+    subst HasRoom (sym is) (record {
+      light = omega (arith, small.heft);
+      room = omega (arith, small.heft, all, reach_most o (heft o) (omega arith));
+      fit = record { entries = omega arith; caps = each_within (λ v. cap_of (slice_get g v)) (2 ^ 40) 2 (node_caps o 1) (λ v. cap_within g v within) (program_shaped p t formed).caps_agree };
+    })
+
+pub if_all : {A E : Type 0} (r : Result A E) (P Q R S T : A → Type 0) → ((u : A) → P u → Q u → R u → S u → T u) → IfOk r P → IfOk r Q → IfOk r R → IfOk r S → IfOk r T
+if_all (Ok x) P Q R S T f a b c d = f x a b c d
+if_all (Err e) P Q R S T f a b c d = a

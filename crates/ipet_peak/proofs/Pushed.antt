@@ -1,0 +1,75 @@
+-- Numbers that are added to a list one after the other.
+use Rattle.std.proofs.Common.{◌≡◌, ℕ, ℤ, pos, List, [], ◌∷◌, ◌++◌, map, Option, None, refl, sym, ap, ◌∙◌, append_assoc, ◌≤◌, ◌+◌, Some, arith}
+use Rattle.ipet_peak.specs.declared.tree.Tree.{Tree}
+use Rattle.ipet_peak.specs.declared.tree.Tree.TheVariants as tree
+use Rattle.peak_laws.specs.Parts.{Part, turn, dear, from_entry}
+use Rattle.peak_laws.specs.declared.ways.Leaving.{Leaving}
+use Rattle.ipet_peak.specs.Trees.{part_of, turns_of, reached, best, tallest}
+use Rattle.flow_laws.specs.Sites.{Targets}
+use Rattle.peak_laws.proofs.Dearest.{UpTo, upper, lower}
+use Rattle.peak_laws.specs.Hefts.{heft}
+use Rattle.peak_laws.proofs.Hefts.{Below, entry_most}
+use Rattle.ipet_peak.proofs.TreeLayers.{part-Nothing, part-Block, part-Then, part-Choice, part-While, part-Do}
+
+map_append : (p q : List ℕ) → map pos (p ++ q) ≡ map pos p ++ map pos q
+map_append [] q = refl
+map_append (x ∷ p) q = ap (λ ys. pos x ∷ ys) (map_append p q)
+
+append_none : (xs : List ℤ) → xs ++ [] ≡ xs
+append_none [] = refl
+append_none (x ∷ xs) = ap (λ ys. x ∷ ys) (append_none xs)
+
+pub none_pushed : (old : List ℤ) (r : List ℕ) → r ≡ [] → old ≡ old ++ map pos r
+none_pushed old r is = sym (ap (λ y. old ++ map pos y) is ∙ append_none old)
+
+pub two_pushed : (old x y : List ℤ) (p q r : List ℕ) → x ≡ old ++ map pos p → y ≡ x ++ map pos q → r ≡ p ++ q → y ≡ old ++ map pos r
+two_pushed old x y p q r one two is =
+    two ∙ ap (λ z. z ++ map pos q) one ∙ append_assoc old (map pos p) (map pos q) ∙ ap (λ z. old ++ z) (sym (map_append p q)) ∙ ap (λ z. old ++ map pos z) (sym is)
+
+-- ---- turns, one layer at a time
+
+pub turns_nothing : (t : Tree) → t ≡ tree.Nothing → turns_of (part_of t) ≡ []
+turns_nothing t is = ap (λ y. turns_of (part_of y)) is ∙ ap turns_of part-Nothing
+
+pub turns_block : (t : Tree) (c : ℕ) (l : Leaving) → t ≡ tree.Block c l → turns_of (part_of t) ≡ []
+turns_block t c l is = ap (λ y. turns_of (part_of y)) is ∙ ap turns_of (part-Block c l)
+
+pub turns_then : (t a b x y : Tree) → t ≡ tree.Then a b → x ≡ a → y ≡ b → turns_of (part_of t) ≡ turns_of (part_of x) ++ turns_of (part_of y)
+turns_then t a b x y is xa yb =
+    ap (λ z. turns_of (part_of z)) is ∙ ap turns_of (part-Then a b) ∙ sym (λ i. turns_of (part_of (xa i)) ++ turns_of (part_of (yb i)))
+
+pub turns_choice : (t a b x y : Tree) (c : ℕ) → t ≡ tree.Choice c a b → x ≡ a → y ≡ b → turns_of (part_of t) ≡ turns_of (part_of x) ++ turns_of (part_of y)
+turns_choice t a b x y c is xa yb =
+    ap (λ z. turns_of (part_of z)) is ∙ ap turns_of (part-Choice c a b) ∙ sym (λ i. turns_of (part_of (xa i)) ++ turns_of (part_of (yb i)))
+
+pub turns_while : (t a x : Tree) (c m v : ℕ) (s : Option ℕ) → t ≡ tree.While c m s a → x ≡ a → v ≡ turn c s (dear (part_of a)) → turns_of (part_of t) ≡ v ∷ turns_of (part_of x)
+turns_while t a x c m v s is xa vy =
+    ap (λ z. turns_of (part_of z)) is ∙ ap turns_of (part-While c m s a) ∙ sym (λ i. vy i ∷ turns_of (part_of (xa i)))
+
+pub turns_do : (t a x : Tree) (c m v : ℕ) → t ≡ tree.Do c m a → x ≡ a → v ≡ turn c None (dear (part_of a)) → turns_of (part_of t) ≡ turns_of (part_of x) ++ (v ∷ [])
+turns_do t a x c m v is xa vy =
+    ap (λ z. turns_of (part_of z)) is ∙ ap turns_of (part-Do c m a) ∙ sym (λ i. turns_of (part_of (xa i)) ++ (vy i ∷ []))
+
+-- ---- what a part costs from its entry on is its best way
+
+reached_most : (o : Option ℕ) (t x : ℕ) → UpTo 0 o t x → reached o t ≤ x
+reached_most None t x h = omega arith
+reached_most (Some d) t x h = omega (arith, h)
+
+most_reached : (o : Option ℕ) (t x : ℕ) → reached o t ≤ x → UpTo 0 o t x
+most_reached None t x h = tt
+most_reached (Some d) t x h = omega (arith, h)
+
+pub best_is : (p : Part) (t : Targets) → from_entry p t ≡ best (dear p) t
+best_is p t =
+    let w = dear p in
+    let low = lower p t in
+    let x = best w t in
+    let high = upper p 0 x t (record { next = most_reached w.next t.next x (omega arith); breaks = most_reached w.breaks t.breaks x (omega arith); continues = most_reached w.continues t.continues x (omega arith); returns = most_reached w.returns t.returns x (omega arith) }) in
+    omega (arith, high, reached_most w.next t.next (from_entry p t) low.next, reached_most w.breaks t.breaks (from_entry p t) low.breaks, reached_most w.continues t.continues (from_entry p t) low.continues, reached_most w.returns t.returns (from_entry p t) low.returns)
+
+below_tallest : (t : Targets) → Below t (tallest t)
+below_tallest t = record { next = omega arith; breaks = omega arith; continues = omega arith; returns = omega arith }
+
+pub entry_tallest : (p : Part) (t : Targets) → from_entry p t ≤ heft p + tallest t
+entry_tallest p t = entry_most p t (tallest t) (below_tallest t)

@@ -1,0 +1,62 @@
+//! The peak of a plan, from the tree of its program.
+
+ghost use Rattle.std.specs.Prelude.{◌≡◌, ◌≤◌, ◌^◌, pos, IfOk};
+ghost use Rattle.peak_laws.specs.Answers.{peak_value, peak_counts, peak_multipliers};
+ghost use Rattle.peak_laws.specs.Hefts.{heft, reach};
+ghost use Rattle.ipet_peak.specs.Trees.{part_of, Fit};
+ghost use Rattle.peak_laws.specs.Peaks.{IsPeakOf};
+
+use crate::ahead::all_to;
+use crate::flows::{Amounts, push_flows};
+use crate::growing::program_tree;
+use crate::potentials::{from_entry, push, push_potentials};
+use crate::tree::Tree;
+use crate::turns::push_turns;
+use c_tree::NoMemory;
+use flow_graph::Plan;
+use ipet_rows::caps_bound;
+use lin_rows::Multipliers;
+use peak_laws::Peak;
+use sqlite_items::Items;
+use std::alloc::Global;
+
+// The part is left once, by its end.
+const ONCE: Amounts = Amounts {
+    next: 1,
+    breaks: 0,
+    continues: 0,
+    returns: 0,
+};
+
+/// The peak of a part that is entered once.
+pub(crate) fn peak_of_tree(alloc: Global, tree: &Tree) -> Result<Peak, NoMemory>
+    requires light { heft (part_of tree.now) ≤ 2 ^ 124 }
+    requires room { reach (part_of tree.now) ≤ 2 ^ 124 }
+    requires fit { Fit (part_of tree.now) 1 }
+    ensures value { IfOk result (λ p. p.value ≡ peak_value (part_of tree.now)) }
+    ensures counts { IfOk result (λ p. p.counts ≡ peak_counts (part_of tree.now)) }
+    ensures divisor { IfOk result (λ p. p.by.d ≡ pos 1) }
+    ensures multipliers { IfOk result (λ p. p.by.y ≡ peak_multipliers (part_of tree.now)) }
+{
+    let value = from_entry(tree, all_to(0));
+    let mut counts = Items::new(alloc);
+    counts.push(1)?;
+    push_flows(tree, ONCE, &mut counts)?;
+    let mut y = Items::new(alloc);
+    push(value, &mut y)?;
+    push_potentials(tree, all_to(0), &mut y)?;
+    push_turns(tree, &mut y)?;
+    let by = Multipliers { d: 1, y };
+    Ok(Peak { counts, value, by })
+}
+
+/// The greatest cost of counts that meet the rows of the plan, counts that cost it, and multipliers that certify it. It fails for want of
+/// memory alone. Its time grows with the edges times the nesting.
+pub fn peak(alloc: Global, plan: &Plan) -> Result<Peak, NoMemory>
+    ensures { IfOk result (λ peak. IsPeakOf plan.now peak) }
+{
+    // No run is asked for: what is learnt is that the costs leave room.
+    let _bound = caps_bound(plan);
+    let tree = program_tree(alloc, plan.program(), plan.costs())?;
+    peak_of_tree(alloc, &tree)
+}
