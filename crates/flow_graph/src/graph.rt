@@ -12,9 +12,9 @@ ghost use Rattle.flow_graph.specs.Leaving.{AreOuts};
 ghost use Rattle.flow_graph.specs.Plans.{IsPlan, IsPlanned, planned, keeps_all};
 ghost use Rattle.flow_graph.specs.Spans.{span_of};
 
+use crate::interval::Span;
 use crate::lists::{edge_cost, follows, keeps_each, names_edges};
 use crate::onward::Outs;
-use crate::interval::Span;
 use crate::spot::Spot;
 use c_tree::{BlockName, Costs, Program};
 use flow_laws::{Edge, Loop, Node};

@@ -13,10 +13,10 @@ ghost use Rattle.flow_graph.specs.declared.fault.PlanFault.TheVariants as PlanFa
 use crate::amounts::{Weights, amounts};
 use crate::fault::PlanFault;
 use crate::graph::Plan;
+use crate::interval::spans_of;
 use crate::joints::{edges_of, first_above, loops_of};
 use crate::layout::EACH;
 use crate::onward::outs_by_node;
-use crate::interval::spans_of;
 use crate::spot::Spot;
 use crate::unfold::lay_out;
 use c_tree::{Costs, NoMemory, Program};
@@ -55,9 +55,7 @@ pub fn plan(alloc: Global, program: Program, costs: Costs) -> Result<Plan, PlanF
     let loops = loops_of(alloc, spots.as_slice(), edges.as_slice())?;
     let outs = outs_by_node(alloc, spots.as_slice())?;
     let spans = spans_of(alloc, spots.as_slice())?;
-    Ok(Plan::of_graph(
-        program, costs, spots, edges, outs, loops, spans, copies,
-    ))
+    Ok(Plan::of_graph(program, costs, spots, edges, outs, loops, spans, copies))
 }
 
 // How many block copies there are, where they and the edges are not too many.
