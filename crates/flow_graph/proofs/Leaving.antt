@@ -1,24 +1,22 @@
 -- The edges that leave a node are those that are laid out for it, and a loop copy stands where it is laid out.
-use Rattle.std.proofs.Common.{◌≡◌, ◌<◌, ◌⊎◌, inl, inr, ℕ, zero, suc, ◌+◌, List, [], ◌∷◌, ◌++◌, length, take, drop, get_or, Option, Some, None, refl, sym, ap, ◌∙◌, subst, arith, append_assoc, length-append}
+use Rattle.std.proofs.Common.{◌≡◌, ◌<◌, ◌⊎◌, inl, inr, ℕ, zero, suc, ◌+◌, List, [], ◌∷◌, ◌++◌, length, take, drop, get_or, Some, None, refl, sym, ap, ◌∙◌, subst, arith, append_assoc, length-append}
 use Rattle.std.specs.Prelude.{slice_get, slice_index_or, map}
 use Rattle.std.proofs.lemmas.List.{map-append}
 use Rattle.flow_laws.specs.declared.graph.Way.TheVariants.{Next, True, False}
 use Rattle.flow_laws.specs.declared.graph.Edge.{Edge}
-use Rattle.flow_laws.specs.Sites.{Content, Entry, Exit, Simple, Test, Jump, Give, Enter, Missing, Land, Site, LoopCopy}
+use Rattle.flow_laws.specs.Sites.{Content, Entry, Exit, Simple, Test, Jump, Give, Enter, Missing, Land, Site}
 use Rattle.flow_laws.specs.Graphs.{edges, edges_from, outs, first_out, leaves, loops_at, loop_copies}
 use Rattle.flow_laws.proofs.Turned.{AllTested, IsTested}
 use Rattle.flow_graph.specs.declared.onward.Outs.{Outs}
-use Rattle.flow_graph.specs.declared.onward.Outs.TheVariants.{Nowhere, One, Two}
+use Rattle.flow_graph.specs.declared.onward.Outs.TheVariants.{Nowhere}
 use Rattle.flow_graph.specs.declared.interval.Span.{Span}
-use Rattle.flow_graph.specs.declared.spot.Ends.{Ends}
-use Rattle.flow_graph.specs.declared.spot.Ends.TheVariants as ends
 use Rattle.flow_graph.specs.declared.spot.Spot.{Spot}
 use Rattle.flow_graph.specs.Spots.{spot_of, spots, ends_of}
-use Rattle.flow_graph.specs.Joints.{outs_of, spot_edges, spot_outs}
+use Rattle.flow_graph.specs.Joints.{outs_of}
 use Rattle.flow_graph.specs.Leaving.{LeavesBy, Leave, IsAmong, AreOuts, outs_from, all_outs}
 use Rattle.flow_graph.specs.Spans.{span_of, ends_spans, spot_spans}
 use Rattle.flow_graph.proofs.Sums.{drop_is}
-use Rattle.flow_graph.proofs.Drawn.{outs_are, outs_long, count_step}
+use Rattle.flow_graph.proofs.Drawn.{outs_are, outs_long}
 
 -- ---- parts of lists
 
