@@ -35,7 +35,7 @@ impl<'a> Reader<'a> {
             if !self.another_value() {
                 return Ok(list);
             }
-            self.expect(Symbol::Comma)?;
+            self.take();
         }
         Err(self.refuse())
     }
@@ -141,7 +141,7 @@ impl<'a> Reader<'a> {
             if !self.another() {
                 return Ok(list);
             }
-            self.expect(Symbol::Comma)?;
+            self.take();
         }
         Err(self.refuse())
     }

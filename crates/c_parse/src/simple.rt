@@ -60,7 +60,7 @@ impl<'a> Reader<'a> {
             if !self.another() {
                 return Ok(list);
             }
-            self.expect(Symbol::Comma)?;
+            self.take();
         }
         Err(self.refuse())
     }
@@ -180,8 +180,10 @@ impl<'a> Reader<'a> {
         ensures { Reads (λ x. x) (spec.assign room self.old) result self.new }
     {
         let stmt = self.assignment(room)?;
+        let mut list = Items::new(self.alloc());
+        list.push(stmt)?;
         self.expect(Symbol::Semicolon)?;
-        only(self.alloc(), stmt)
+        Ok(list)
     }
 
     /// What begins with a name: a call or an assignment.

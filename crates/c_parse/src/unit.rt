@@ -44,7 +44,7 @@ impl<'a> Reader<'a> {
             if !self.another() {
                 return Ok(list);
             }
-            self.expect(Symbol::Comma)?;
+            self.take();
         }
         Err(self.refuse())
     }
@@ -89,7 +89,7 @@ impl<'a> Reader<'a> {
             if !self.another() {
                 return Ok(list);
             }
-            self.expect(Symbol::Comma)?;
+            self.take();
         }
         Err(self.refuse())
     }
@@ -136,7 +136,7 @@ impl<'a> Reader<'a> {
             if !self.another() {
                 return Ok(list);
             }
-            self.expect(Symbol::Comma)?;
+            self.take();
         }
         Err(self.refuse())
     }
