@@ -74,7 +74,7 @@ impl<'a> Reader<'a> {
             return Ok(RawTop::Outer(constant, ty, spot, None));
         }
         let size = self.index(room)?;
-        Ok(RawTop::Outer(constant, ty, spot, Some(size.expr)))
+        Ok(RawTop::Outer(constant, ty, spot, Some(size.expr.into_inner())))
     }
 
     #[tactic(auto, using(parse_laws::proofs::Lists::list_turns))]
