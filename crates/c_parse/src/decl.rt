@@ -8,10 +8,11 @@ ghost use Rattle.parse_laws.specs.ReadExpr.{expr};
 ghost use Rattle.parse_laws.specs.ReadSimple as simple;
 ghost use Rattle.c_parse.specs.Reads.{Reads};
 
+use crate::expr::unboxed;
 use crate::reader::Reader;
 use c_tree::{RawExpr, RawShape, RawStmt, RawTarget, Symbol, Ty};
 use parse_laws::Fault;
-use sqlite_items::Items;
+use sqlite_items::{Boxed, Items};
 
 impl<'a> Reader<'a> {
     /// Whether a declaration comes next.
@@ -31,18 +32,18 @@ impl<'a> Reader<'a> {
         let mut list = Items::new(self.alloc());
         for _turn in 0..self.left() {
             let a = self.expr(room, 0)?;
-            list.push(a.expr)?;
+            list.push(a.expr.into_inner())?;
             if !self.another_value() {
                 return Ok(list);
             }
-            self.expect(Symbol::Comma)?;
+            self.take();
         }
         Err(self.refuse())
     }
 
     /// The length of an array, which may be missing.
     #[tactic(auto, unfolding(parse_laws::specs::ReadDecl::size))]
-    fn size(&mut self, room: usize) -> Result<Option<RawExpr>, Fault>
+    fn size(&mut self, room: usize) -> Result<Option<Boxed<RawExpr>>, Fault>
         requires { room < 999 }
         ensures { Reads (λ x. x) (spec.size room self.old) result self.new }
     {
@@ -93,7 +94,7 @@ impl<'a> Reader<'a> {
         }
         self.expect(Symbol::Assign)?;
         let a = self.expr(room, 0)?;
-        Ok(Some(a.expr))
+        Ok(Some(a.expr.into_inner()))
     }
 
     /// What follows the name of a declarator.
@@ -105,7 +106,7 @@ impl<'a> Reader<'a> {
         if self.sees(Symbol::LeftBracket) {
             let size = self.size(room)?;
             let list = self.filled(room)?;
-            Ok(RawShape::Array(size, list))
+            Ok(RawShape::Array(unboxed(size), list))
         } else {
             let value = self.initialised(room)?;
             Ok(RawShape::Scalar(value))
@@ -141,7 +142,7 @@ impl<'a> Reader<'a> {
             if !self.another() {
                 return Ok(list);
             }
-            self.expect(Symbol::Comma)?;
+            self.take();
         }
         Err(self.refuse())
     }

@@ -5,6 +5,7 @@
 ghost use Rattle.std.specs.Prelude.{◌≡◌, ◌-◌, ◌+◌, ◌<◌, ◌≤◌, max, [], length, Ok, IfOk};
 ghost use Rattle.parse_laws.specs.ReadExpr as spec;
 ghost use Rattle.c_parse.specs.Reads.{Reads};
+ghost use Rattle.c_tree.specs.Heights as of;
 
 use crate::measured::MeasuredExpr;
 use crate::reader::Reader;
@@ -17,15 +18,23 @@ use std::alloc::Global;
 /// The level of the unary operators and casts.
 const UNARY: u8 = 11;
 
-#[tactic(auto, using(parse_laws::proofs::Layers::height_layers))]
-fn scalar(spot: Spot) -> MeasuredExpr
-    ensures low { result.height ≡ 1 }
-    ensures value { result.expr ≡ RawExpr.Name spot }
+fn measured(alloc: Global, expr: RawExpr, height: usize) -> Result<MeasuredExpr, Fault>
+    requires { height ≡ of.height expr }
+    ensures low { IfOk result (λ t. t.height ≡ height) }
+    ensures reads { Reads (λ t. t.expr) (Ok (expr, [])) result [] }
 {
-    MeasuredExpr {
-        expr: RawExpr::Name(spot),
-        height: 1,
-    }
+    Ok(MeasuredExpr {
+        expr: Boxed::new(alloc, expr)?,
+        height,
+    })
+}
+
+#[tactic(auto, using(parse_laws::proofs::Layers::height_layers))]
+fn scalar(alloc: Global, spot: Spot) -> Result<MeasuredExpr, Fault>
+    ensures low { IfOk result (λ t. t.height ≡ 1) }
+    ensures reads { Reads (λ t. t.expr) (Ok (RawExpr.Name spot, [])) result [] }
+{
+    measured(alloc, RawExpr::Name(spot), 1)
 }
 
 #[tactic(auto, using(parse_laws::proofs::Layers::height_layers))]
@@ -35,10 +44,7 @@ fn element(alloc: Global, spot: Spot, a: MeasuredExpr) -> Result<MeasuredExpr, F
     ensures reads { Reads (λ t. t.expr) (Ok (RawExpr.Elem spot a.expr, [])) result [] }
 {
     let height = a.height + 1;
-    Ok(MeasuredExpr {
-        expr: RawExpr::Elem(spot, Boxed::new(alloc, a.expr)?),
-        height,
-    })
+    measured(alloc, RawExpr::Elem(spot, a.expr), height)
 }
 
 #[tactic(auto, using(parse_laws::proofs::Layers::height_layers))]
@@ -48,10 +54,7 @@ fn unary(alloc: Global, at: u32, op: UnOp, a: MeasuredExpr) -> Result<MeasuredEx
     ensures reads { Reads (λ t. t.expr) (Ok (RawExpr.Un at op a.expr, [])) result [] }
 {
     let height = a.height + 1;
-    Ok(MeasuredExpr {
-        expr: RawExpr::Un(at, op, Boxed::new(alloc, a.expr)?),
-        height,
-    })
+    measured(alloc, RawExpr::Un(at, op, a.expr), height)
 }
 
 #[tactic(auto, using(parse_laws::proofs::Layers::height_layers))]
@@ -61,10 +64,7 @@ fn cast(alloc: Global, at: u32, ty: Ty, a: MeasuredExpr) -> Result<MeasuredExpr,
     ensures reads { Reads (λ t. t.expr) (Ok (RawExpr.Cast at ty a.expr, [])) result [] }
 {
     let height = a.height + 1;
-    Ok(MeasuredExpr {
-        expr: RawExpr::Cast(at, ty, Boxed::new(alloc, a.expr)?),
-        height,
-    })
+    measured(alloc, RawExpr::Cast(at, ty, a.expr), height)
 }
 
 #[tactic(auto, using(parse_laws::proofs::Layers::height_layers))]
@@ -74,10 +74,7 @@ fn parenthesised(alloc: Global, at: u32, inner: MeasuredExpr) -> Result<Measured
     ensures reads { Reads (λ t. t.expr) (Ok (RawExpr.Paren at inner.expr, [])) result [] }
 {
     let height = inner.height + 1;
-    Ok(MeasuredExpr {
-        expr: RawExpr::Paren(at, Boxed::new(alloc, inner.expr)?),
-        height,
-    })
+    measured(alloc, RawExpr::Paren(at, inner.expr), height)
 }
 
 #[tactic(auto, using(parse_laws::proofs::Layers::height_layers))]
@@ -88,10 +85,7 @@ fn binary(alloc: Global, op: BinOp, a: MeasuredExpr, b: MeasuredExpr) -> Result<
     ensures reads { Reads (λ t. t.expr) (Ok (RawExpr.Bin op a.expr b.expr, [])) result [] }
 {
     let height = a.height.max(b.height) + 1;
-    Ok(MeasuredExpr {
-        expr: RawExpr::Bin(op, Boxed::new(alloc, a.expr)?, Boxed::new(alloc, b.expr)?),
-        height,
-    })
+    measured(alloc, RawExpr::Bin(op, a.expr, b.expr), height)
 }
 
 #[tactic(auto, using(parse_laws::proofs::Layers::height_layers))]
@@ -108,14 +102,17 @@ fn conditional(
     ensures reads { Reads (λ t. t.expr) (Ok (RawExpr.Cond a.expr b.expr c.expr, [])) result [] }
 {
     let height = a.height.max(b.height.max(c.height)) + 1;
-    Ok(MeasuredExpr {
-        expr: RawExpr::Cond(
-            Boxed::new(alloc, a.expr)?,
-            Boxed::new(alloc, b.expr)?,
-            Boxed::new(alloc, c.expr)?,
-        ),
-        height,
-    })
+    measured(alloc, RawExpr::Cond(a.expr, b.expr, c.expr), height)
+}
+
+/// The expression in the box, if there is one.
+pub(crate) fn unboxed(value: Option<Boxed<RawExpr>>) -> Option<RawExpr>
+    ensures { result ≡ value }
+{
+    match value {
+        None => None,
+        Some(a) => Some(a.into_inner()),
+    }
 }
 
 impl<'a> Reader<'a> {
@@ -223,10 +220,7 @@ impl<'a> Reader<'a> {
             None => Err(self.refuse()),
             Some(Symbol::Number) => {
                 let number = self.number()?;
-                Ok(MeasuredExpr {
-                    expr: number,
-                    height: 1,
-                })
+                measured(self.alloc(), number, 1)
             }
             Some(Symbol::Name) => self.variable(room),
             Some(Symbol::LeftParen) => self.parenthesised(room),
@@ -262,7 +256,7 @@ impl<'a> Reader<'a> {
     {
         let spot = self.name()?;
         if !self.sees(Symbol::LeftBracket) {
-            return Ok(scalar(spot));
+            return scalar(self.alloc(), spot);
         }
         let a = self.index(room)?;
         element(self.alloc(), spot, a)

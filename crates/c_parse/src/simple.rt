@@ -8,10 +8,11 @@ ghost use Rattle.parse_laws.specs.ReadExpr.{expr};
 ghost use Rattle.parse_laws.specs.ReadSimple as spec;
 ghost use Rattle.c_parse.specs.Reads.{Reads};
 
+use crate::expr::unboxed;
 use crate::reader::Reader;
 use c_tree::{BinOp, RawExpr, RawPlace, RawStmt, RawTarget, Symbol, Ty};
 use parse_laws::Fault;
-use sqlite_items::Items;
+use sqlite_items::{Boxed, Items};
 use std::alloc::Global;
 
 /// The list of this one statement.
@@ -56,11 +57,11 @@ impl<'a> Reader<'a> {
         let mut list = Items::new(self.alloc());
         for _turn in 0..self.left() {
             let a = self.expr(room, 0)?;
-            list.push(a.expr)?;
+            list.push(a.expr.into_inner())?;
             if !self.another() {
                 return Ok(list);
             }
-            self.expect(Symbol::Comma)?;
+            self.take();
         }
         Err(self.refuse())
     }
@@ -116,7 +117,7 @@ impl<'a> Reader<'a> {
             return Ok(RawPlace::Scalar(spot));
         }
         let a = self.index(room - 1)?;
-        Ok(RawPlace::Elem(spot, a.expr))
+        Ok(RawPlace::Elem(spot, a.expr.into_inner()))
     }
 
     /// The rest of an assignment to a place.
@@ -129,12 +130,12 @@ impl<'a> Reader<'a> {
             Some(Symbol::Assign) => {
                 self.take();
                 let a = self.expr(room, 0)?;
-                Ok(RawStmt::Assign(place, None, a.expr))
+                Ok(RawStmt::Assign(place, None, a.expr.into_inner()))
             }
             Some(Symbol::Compound(op)) => {
                 self.take();
                 let a = self.expr(room, 0)?;
-                Ok(RawStmt::Assign(place, Some(op), a.expr))
+                Ok(RawStmt::Assign(place, Some(op), a.expr.into_inner()))
             }
             Some(Symbol::Step(op)) => {
                 let at = self.place();
@@ -180,8 +181,10 @@ impl<'a> Reader<'a> {
         ensures { Reads (λ x. x) (spec.assign room self.old) result self.new }
     {
         let stmt = self.assignment(room)?;
+        let mut list = Items::new(self.alloc());
+        list.push(stmt)?;
         self.expect(Symbol::Semicolon)?;
-        only(self.alloc(), stmt)
+        Ok(list)
     }
 
     /// What begins with a name: a call or an assignment.
@@ -230,7 +233,7 @@ impl<'a> Reader<'a> {
 
     /// The expression of a `return`, if there is one.
     #[tactic(auto, unfolding(parse_laws::specs::ReadSimple::returned_value))]
-    fn returned_value(&mut self, room: usize) -> Result<Option<RawExpr>, Fault>
+    fn returned_value(&mut self, room: usize) -> Result<Option<Boxed<RawExpr>>, Fault>
         requires { room < 999 }
         ensures { Reads (λ x. x) (spec.returned_value room self.old) result self.new }
     {
@@ -250,6 +253,6 @@ impl<'a> Reader<'a> {
         let at = self.expect(Symbol::Return)?;
         let value = self.returned_value(room)?;
         self.expect(Symbol::Semicolon)?;
-        only(self.alloc(), RawStmt::Return(at, value))
+        only(self.alloc(), RawStmt::Return(at, unboxed(value)))
     }
 }

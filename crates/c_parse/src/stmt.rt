@@ -23,7 +23,7 @@ fn held(alloc: Global, stmt: RawStmt) -> Result<Option<Boxed<RawStmt>>, Fault>
 impl<'a> Reader<'a> {
     /// `( expression )`.
     #[tactic(auto, unfolding(parse_laws::specs::ReadStmt::condition))]
-    fn condition(&mut self, room: usize) -> Result<RawExpr, Fault>
+    fn condition(&mut self, room: usize) -> Result<Boxed<RawExpr>, Fault>
         requires { room < 999 }
         ensures { Reads (λ x. x) (spec.condition room self.old) result self.new }
     {
@@ -42,7 +42,7 @@ impl<'a> Reader<'a> {
         let spot = self.name()?;
         self.expect(Symbol::Assign)?;
         let a = self.expr(room, 0)?;
-        Ok(RawStmt::Declare(false, ty, spot, RawShape::Scalar(Some(a.expr))))
+        Ok(RawStmt::Declare(false, ty, spot, RawShape::Scalar(Some(a.expr.into_inner()))))
     }
 
     #[tactic(auto, unfolding(parse_laws::specs::ReadStmt::setup))]
@@ -75,7 +75,7 @@ impl<'a> Reader<'a> {
 
     /// The condition of a `for`. A missing one is the number 1 at the place of the semicolon.
     #[tactic(auto, using(parse_laws::proofs::StmtTurns::part_turns, parse_laws::proofs::Steps::seeing))]
-    fn test(&mut self, room: usize) -> Result<RawExpr, Fault>
+    fn test(&mut self, room: usize) -> Result<Boxed<RawExpr>, Fault>
         requires { room < 999 }
         ensures { Reads (λ x. x) (spec.test room self.old) result self.new }
     {
@@ -83,7 +83,7 @@ impl<'a> Reader<'a> {
             return Err(self.too_deep());
         }
         if self.sees(Symbol::Semicolon) {
-            return Ok(one(self.place()));
+            return Ok(Boxed::new(self.alloc(), one(self.place()))?);
         }
         let a = self.expr(room, 0)?;
         Ok(a.expr)
@@ -107,7 +107,7 @@ impl<'a> Reader<'a> {
 
     /// What stands after the body of a `do`.
     #[tactic(auto, unfolding(parse_laws::specs::ReadStmt::do_end))]
-    fn do_end(&mut self, room: usize) -> Result<RawExpr, Fault>
+    fn do_end(&mut self, room: usize) -> Result<Boxed<RawExpr>, Fault>
         requires { room < 999 }
         ensures { Reads (λ x. x) (spec.do_end room self.old) result self.new }
     {
@@ -190,7 +190,7 @@ impl<'a> Reader<'a> {
         let a = self.condition(room)?;
         let xs = self.body(room)?;
         let ys = self.other(room)?;
-        only(self.alloc(), RawStmt::If(a, xs, ys))
+        only(self.alloc(), RawStmt::If(a.into_inner(), xs, ys))
     }
 
     /// The side of an `if` after its `else`, if there is one.
@@ -232,7 +232,7 @@ impl<'a> Reader<'a> {
         let at = self.expect(Symbol::While)?;
         let a = self.condition(room)?;
         let xs = self.body(room)?;
-        only(self.alloc(), RawStmt::While(at, bound, a, xs))
+        only(self.alloc(), RawStmt::While(at, bound, a.into_inner(), xs))
     }
 
     #[cycle(code)]
@@ -244,7 +244,7 @@ impl<'a> Reader<'a> {
         let at = self.expect(Symbol::Do)?;
         let xs = self.body(room)?;
         let a = self.do_end(room)?;
-        only(self.alloc(), RawStmt::Do(at, bound, xs, a))
+        only(self.alloc(), RawStmt::Do(at, bound, xs, a.into_inner()))
     }
 
     #[cycle(code)]
@@ -258,7 +258,7 @@ impl<'a> Reader<'a> {
         let xs = self.body(room)?;
         only(
             self.alloc(),
-            RawStmt::For(at, bound, head.first, head.test, head.last, xs),
+            RawStmt::For(at, bound, head.first, head.test.into_inner(), head.last, xs),
         )
     }
 

@@ -44,7 +44,7 @@ impl<'a> Reader<'a> {
             if !self.another() {
                 return Ok(list);
             }
-            self.expect(Symbol::Comma)?;
+            self.take();
         }
         Err(self.refuse())
     }
@@ -74,7 +74,7 @@ impl<'a> Reader<'a> {
             return Ok(RawTop::Outer(constant, ty, spot, None));
         }
         let size = self.index(room)?;
-        Ok(RawTop::Outer(constant, ty, spot, Some(size.expr)))
+        Ok(RawTop::Outer(constant, ty, spot, Some(size.expr.into_inner())))
     }
 
     #[tactic(auto, using(parse_laws::proofs::Lists::list_turns))]
@@ -89,7 +89,7 @@ impl<'a> Reader<'a> {
             if !self.another() {
                 return Ok(list);
             }
-            self.expect(Symbol::Comma)?;
+            self.take();
         }
         Err(self.refuse())
     }
@@ -136,7 +136,7 @@ impl<'a> Reader<'a> {
             if !self.another() {
                 return Ok(list);
             }
-            self.expect(Symbol::Comma)?;
+            self.take();
         }
         Err(self.refuse())
     }

@@ -1,6 +1,6 @@
 -- Phrases with commas between them: reading them a turn at a time, and both ways against the rule.
 use Rattle.std.proofs.Common.{◌≡◌, ℕ, zero, suc, ◌-◌, ◌<◌, ◌≤◌, Bool, true, false, List, [], ◌∷◌, ◌++◌, length, Ok, Err, refl, sym, ap, ◌∙◌, arith, append_assoc}
-use Rattle.std.specs.Prelude.{if◌then◌else◌}
+use Rattle.std.specs.Prelude.{not, if◌then◌else◌}
 use Rattle.c_tree.specs.declared.symbol.Symbol.{Symbol}
 use Rattle.c_tree.specs.declared.symbol.Symbol.TheVariants as s
 use Rattle.c_tree.specs.declared.unit.RawExpr.{RawExpr}
@@ -8,9 +8,9 @@ use Rattle.c_tree.specs.Heights.{height, list_height}
 use Rattle.c_tree.specs.SpelledExpressions.{Separated, last, comma}
 use Rattle.c_tree.specs.Symbols.{Lexeme}
 use Rattle.parse_laws.specs.declared.fault.Fault.TheVariants.{Syntax}
-use Rattle.parse_laws.specs.Parser.{Parser, and_then, sees, sees_second, expect, another, another_value, separated, separated_on, phrases}
+use Rattle.parse_laws.specs.Parser.{Parser, and_then, tail, token, sees, sees_second, expect, another, another_value, separated, separated_on, phrases}
 use Rattle.parse_laws.specs.Same.{same}
-use Rattle.parse_laws.proofs.Steps.{Sound, bind, choose, step, then_assoc, then_same, then-pure, sees-yes, sees-no, expect-yes}
+use Rattle.parse_laws.proofs.Steps.{Sound, bind, choose, step, then_assoc, then_same, then-pure, sees-some, sees-yes, sees-no, expect-yes}
 
 -- ---- a turn at a time
 
@@ -45,17 +45,48 @@ phrases-more goes_on phrase zero front ts h = absurd (omega arith)
 phrases-more goes_on phrase (suc n) front ts h = let e : n ≡ suc n - 1 = omega arith in
     then_assoc (phrase ts) _ _ ∙ then_same (phrase ts) _ _ (λ a u. phrases-by goes_on phrase n front a u ∙ ap (λ i. phrases_by goes_on phrase i front a u) e)
 
-pub phrases-yes : {A : Type 0} (goes_on : List Lexeme → Bool) (phrase : Parser A) (n : ℕ) (front : List A) (a : A) (u : List Lexeme) → goes_on u ≡ true
-    → phrases_by goes_on phrase n front a u ≡ and_then (expect s.Comma u) (λ at v. separated_on goes_on phrase n (front ++ a ∷ []) v)
+-- the comma that comes next is taken
+taken : {A : Type 0} (after : Parser A) (u : List Lexeme) → sees s.Comma u ≡ true → and_then (expect s.Comma u) (λ at v. after v) ≡ after (tail u)
+unfolding token
+taken after u h = rw h refl
+
+another-comma : (u : List Lexeme) → another u ≡ true → sees s.Comma u ≡ true
+unfolding another
+another-comma u h = h
+
+value-comma : (u : List Lexeme) → another_value u ≡ true → sees s.Comma u ≡ true
+unfolding another_value
+value-comma u h = by_test (sees s.Comma u) h
+  where
+    by_test : (b : Bool) → (if b then not (sees_second s.RightBrace u) else false) ≡ true → b ≡ true
+    by_test true h = refl
+    by_test false h = cc
+
+pub another-some : (u : List Lexeme) → another u ≡ true → 0 < length u
+another-some u h = sees-some s.Comma u (another-comma u h)
+
+pub value-some : (u : List Lexeme) → another_value u ≡ true → 0 < length u
+value-some u h = sees-some s.Comma u (value-comma u h)
+
+phrases-yes : {A : Type 0} (goes_on : List Lexeme → Bool) (phrase : Parser A) (n : ℕ) (front : List A) (a : A) (u : List Lexeme) → goes_on u ≡ true → sees s.Comma u ≡ true
+    → phrases_by goes_on phrase n front a u ≡ separated_on goes_on phrase n (front ++ a ∷ []) (tail u)
 unfolding phrases_by
-phrases-yes goes_on phrase n front a u h = rw h refl
+phrases-yes goes_on phrase n front a u h i = rw h (taken (λ v. separated_on goes_on phrase n (front ++ a ∷ []) v) u i)
+
+pub phrases-another : {A : Type 0} (phrase : Parser A) (n : ℕ) (front : List A) (a : A) (u : List Lexeme) → another u ≡ true
+    → phrases_by another phrase n front a u ≡ separated_on another phrase n (front ++ a ∷ []) (tail u)
+phrases-another phrase n front a u h = phrases-yes another phrase n front a u h (another-comma u h)
+
+pub phrases-value : {A : Type 0} (phrase : Parser A) (n : ℕ) (front : List A) (a : A) (u : List Lexeme) → another_value u ≡ true
+    → phrases_by another_value phrase n front a u ≡ separated_on another_value phrase n (front ++ a ∷ []) (tail u)
+phrases-value phrase n front a u h = phrases-yes another_value phrase n front a u h (value-comma u h)
 
 pub phrases-no : {A : Type 0} (goes_on : List Lexeme → Bool) (phrase : Parser A) (n : ℕ) (front : List A) (a : A) (u : List Lexeme) → goes_on u ≡ false → phrases_by goes_on phrase n front a u ≡ Ok (front ++ a ∷ [], u)
 unfolding phrases_by
 phrases-no goes_on phrase n front a u h = rw h refl
 
 -- for a loop whose invariant is `separated_on goes_on phrase (turn-end - turn) list self ≡ phrases goes_on phrase fn.self`
-pub ruleset list_turns = (phrases-start, phrases-none, phrases-more, phrases-yes, phrases-no)
+pub ruleset list_turns = (phrases-start, phrases-none, phrases-more, phrases-another, phrases-value, phrases-no, another-some, value-some)
 
 -- ---- whether a further phrase comes
 

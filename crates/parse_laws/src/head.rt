@@ -7,6 +7,6 @@ use sqlite_items::Boxed;
 #[derive(Drop)]
 pub struct ForHead {
     pub first: Option<Boxed<RawStmt>>,
-    pub test: RawExpr,
+    pub test: Boxed<RawExpr>,
     pub last: Option<Boxed<RawStmt>>,
 }
