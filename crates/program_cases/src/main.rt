@@ -11,11 +11,12 @@
 //! each other module answers the calls of one or two crates.
 #![tactic(auto)]
 
-mod bounds;
 mod case;
+mod contents;
 mod fault;
 mod inputs;
 mod lists;
+mod peaks;
 mod plans;
 mod reading;
 mod rows;
@@ -65,20 +66,30 @@ fn answered(alloc: Global, case: &Case) -> Result<String, Fault> {
         "table" => tables::given(alloc, case),
         "plain costs" => tables::plain(alloc, case),
         "large table" => tables::large(alloc, case),
-        "loop" => bounds::looping(alloc, case),
-        "bound" => bounds::bound(alloc, case),
         "run" => runs::ended(alloc, case),
         "deep calls" => runs::deep(alloc, case),
         "read" => inputs::read(alloc, case),
         "read and write" => inputs::written_again(alloc, case),
         "write" => inputs::written(alloc, case),
         "fits" => inputs::fitting(alloc, case),
+        _ => answered_on_plans(alloc, case),
+    }
+}
+
+// What the call of a case on a plan answers.
+fn answered_on_plans(alloc: Global, case: &Case) -> Result<String, Fault> {
+    match case.call {
         "plan" => plans::planned(alloc, case),
         "edges" => plans::joined(alloc, case),
         "nodes" => plans::placed(alloc, case),
         "parts" => plans::parts(alloc, case),
         "list of edges" => plans::judged(alloc, case),
         "edge costs" => plans::priced(alloc, case),
+        "contents" => contents::told(alloc, case),
+        "leaving" => contents::left(alloc, case),
+        "spans" => contents::spanned(alloc, case),
+        "peak" => peaks::counted(alloc, case),
+        "peak value" => peaks::valued(alloc, case),
         _ => rows::answered(alloc, case),
     }
 }

@@ -1,9 +1,0 @@
-mod DearLayers
-mod LoopLayers
-mod Within
-mod Values
-mod DearBounds
-mod ListSteps
-mod StmtSteps
-mod Funcs
-pub mod Worked

@@ -1,4 +1,0 @@
-pub mod Loops
-pub mod Dear
-pub mod Room
-pub mod Worked
