@@ -17,7 +17,8 @@ abbrev pub earlier_parts : List Part → List Part
 earlier_parts [] = []
 earlier_parts (p ∷ ps) = ps
 
--- the stack after a piece, which takes the parts that were made last and makes one of them; qs are those of the functions
+-- the stack after a piece, which takes the parts that were made last and makes one of them; qs are those of the
+-- functions
 abbrev pub stack_after_piece : List Part → Piece → List Part → List Part
 stack_after_piece qs piece.Nothing ps = Nothing ∷ ps
 stack_after_piece qs (piece.Block c l) ps = Block c l ∷ ps

@@ -50,13 +50,13 @@ pub(crate) fn peak_of_tree(alloc: Global, tree: &Tree) -> Result<Peak, NoMemory>
     Ok(Peak { counts, value, by })
 }
 
-/// The peak of a plan (Li and Malik): the greatest cost of whole counts that meet the plan's own rows, in the unit of the cost
-/// table; counts that meet them and cost it; and multipliers whose dual value over the box from 0 to the caps is the same
-/// number. No rows that were added to the plan's are looked at.
+/// The peak of a plan (Li and Malik): the greatest cost of whole counts that meet the plan's own rows, in the unit of
+/// the cost table; counts that meet them and cost it; and multipliers whose dual value over the box from 0 to the caps
+/// is the same number. No rows that were added to the plan's are looked at.
 ///
-/// It is refused for want of memory alone. Counts come by multiplication: no loop is walked through. Its time grows with the
-/// edges times the height of the tree of parts, in which a list of statements is as high as it is long, and with the text of
-/// each callee times the calls of it.
+/// It is refused for want of memory alone. Counts come by multiplication: no loop is walked through. Its time grows
+/// with the edges times the height of the tree of parts, in which a list of statements is as high as it is long, and
+/// with the text of each callee times the calls of it.
 pub fn peak(alloc: Global, plan: &Plan) -> Result<Peak, NoMemory>
     ensures { IfOk result (λ peak. IsPeakOf plan.now peak) }
 {

@@ -1,5 +1,5 @@
-//! The pieces of a function's part, in an order in which the part is made without a stack of calls: a piece before those of
-//! the parts that it holds.
+//! The pieces of a function's part, in an order in which the part is made without a stack of calls: a piece before
+//! those of the parts that it holds.
 
 ghost use Rattle.std.specs.Prelude.{◌≡◌, ◌<◌, ◌+◌, ◌^◌, ◌∷◌, [], List, length, slice_get, IfOk, false, true};
 ghost use Rattle.c_tree.specs.Blocks.{is_simple, blocks, list_blocks};
@@ -15,8 +15,9 @@ use sqlite_items::{Boxed, Items};
 use std::alloc::Global;
 use std::slice;
 
-/// A piece of a part: nothing; a node with one end; two parts, one after the other; a condition of two parts; a loop with
-/// its condition, its step and its body; or a callee's body. Each node has its cost, and a loop its bound less one.
+/// A piece of a part: nothing; a node with one end; two parts, one after the other; a condition of two parts; a loop
+/// with its condition, its step and its body; or a callee's body. Each node has its cost, and a loop its bound less
+/// one.
 #[derive(Clone, Copy, Debug, Drop)]
 pub(crate) enum Piece {
     Nothing,

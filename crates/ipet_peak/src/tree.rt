@@ -11,9 +11,9 @@ use crate::ways::{
 use peak_laws::{Leaving, Ways};
 use sqlite_items::Boxed;
 
-/// A part of a flat graph, calls inlined: no node; a node with one end; two parts, one after the other; a condition with
-/// two parts; a loop with its condition, its step and its body; and a callee's body. Each node has its cost. A loop has its
-/// bound less one.
+/// A part of a flat graph, calls inlined: no node; a node with one end; two parts, one after the other; a condition
+/// with two parts; a loop with its condition, its step and its body; and a callee's body. Each node has its cost. A
+/// loop has its bound less one.
 #[derive(Drop)]
 pub(crate) enum Tree {
     Nothing,

@@ -1,5 +1,5 @@
--- How often each edge of a part is taken, where it is gone through by its dearest ways so often as is asked for each of the
--- four. Loops are multiplied out: no walk is followed. This project's own.
+-- How often each edge of a part is taken, where it is gone through by its dearest ways so often as is asked for each of
+-- the four. Loops are multiplied out: no walk is followed. This project's own.
 use Rattle.std.specs.Prelude.{◌≡◌, ℕ, ◌+◌, ◌*◌, nat_le, Bool, true, false, if◌then◌else◌, List, [], ◌∷◌, ◌++◌, Option, Some, None}
 use Rattle.flow_laws.specs.Sites.{Targets}
 use Rattle.peak_laws.specs.Parts.{Part, Nothing, Block, Then, Choice, While, Do, Body, greater, more, both, Ways, dearest_ways, back, turn, ahead, step_costs}

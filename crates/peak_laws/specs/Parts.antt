@@ -1,5 +1,5 @@
--- Parts of a flat graph as trees, calls inlined, and their dearest ways. A part is entered at its first node, and is left
--- in four ways, as a list of statements is: by its end, `break`, `continue` and `return`. This project's own.
+-- Parts of a flat graph as trees, calls inlined, and their dearest ways. A part is entered at its first node, and is
+-- left in four ways, as a list of statements is: by its end, `break`, `continue` and `return`. This project's own.
 use Rattle.std.specs.Prelude.{◌≤◌, ℕ, ◌+◌, ◌-◌, ◌*◌, ◌==◌, ◌&&◌, max, Bool, true, false, if◌then◌else◌, List, [], ◌∷◌, ◌++◌, Option, Some, None}
 use Rattle.flow_laws.specs.declared.graph.Way.{Way}
 use Rattle.flow_laws.specs.declared.graph.Way.TheVariants.{Next, True, False}
@@ -10,9 +10,9 @@ pub use Rattle.peak_laws.specs.declared.ways.Leaving.{Leaving}
 pub use Rattle.peak_laws.specs.declared.ways.Leaving.TheVariants.{ByEnd, ByBreak, ByContinue, ByReturn}
 pub use Rattle.peak_laws.specs.declared.ways.Ways.{Ways}
 
--- no node; a node with one end; one part after the other; a condition with two parts; a loop with its condition, its step
--- and its body; and a callee's body, whose `return` leads to its end. Each node has its cost. `spare` is the bound of the
--- loop less one
+-- no node; a node with one end; one part after the other; a condition with two parts; a loop with its condition, its
+-- step and its body; and a callee's body, whose `return` leads to its end. Each node has its cost. `spare` is the bound
+-- of the loop less one
 pub data Part : Type 0 where
   Nothing : Part
   Block : (cost : ℕ) (leaving : Leaving) → Part

@@ -46,7 +46,8 @@ held_step None' c = None
 held_step (Some' a x) c = Some c
 
 unfoldable mutual
-  -- a statement that is not simple, over the functions above its own; `cost` has the costs of its function's blocks, its first block is b
+  -- a statement that is not simple, over the functions above its own; `cost` has the costs of its function's blocks,
+  -- its first block is b
   pub part : List Part → (ℕ → ℕ) → Stmt → ℕ → Part
   part qs cost Empty b = Nothing
   part qs cost (Scalar l e) b = Nothing

@@ -13,8 +13,8 @@ pub enum Leaving {
     ByReturn,
 }
 
-/// The cost of the dearest way through a part by each of the four ways out, in the unit of the cost table. It is `None` where no
-/// way leaves the part so.
+/// The cost of the dearest way through a part by each of the four ways out, in the unit of the cost table. It is `None`
+/// where no way leaves the part so.
 #[derive(Clone, Copy, Debug)]
 pub struct Ways {
     /// By its end.
