@@ -9,19 +9,19 @@ use Rattle.ipet_peak.specs.declared.tree.Tree.{Tree}
 use Rattle.ipet_peak.specs.declared.pieces.Piece.{Piece}
 use Rattle.peak_laws.specs.Parts.{Part, Nothing}
 use Rattle.peak_laws.specs.ProgramParts.{list_part, costs_in, func_part, parts, entry_part}
-use Rattle.ipet_peak.specs.Pieces.{last_made, made_before, one_made, made, parts_above}
-use Rattle.ipet_peak.specs.Trees.{part_of, onto, parts_of}
-use Rattle.ipet_peak.proofs.PartLayers.{made_append}
+use Rattle.ipet_peak.specs.Pieces.{last_part, earlier_parts, stack_after_piece, stack_after, parts_above}
+use Rattle.ipet_peak.specs.Trees.{part_of, stack_onto, parts_of}
+use Rattle.ipet_peak.proofs.PartLayers.{stack_after_append}
 
-pub onto_push : (ts : List Tree) (t : Tree) (ps : List Part) → onto (ts ++ t ∷ []) ps ≡ part_of t ∷ onto ts ps
+pub onto_push : (ts : List Tree) (t : Tree) (ps : List Part) → stack_onto (ts ++ t ∷ []) ps ≡ part_of t ∷ stack_onto ts ps
 onto_push [] t ps = refl
 onto_push (x ∷ ts) t ps = onto_push ts t (part_of x ∷ ps)
 
-pub last_is : (old new : List Tree) (t : Tree) → old ≡ new ++ t ∷ [] → part_of t ≡ last_made (parts_of old)
-last_is old new t is = sym (ap (λ ts. last_made (onto ts [])) is ∙ ap last_made (onto_push new t []))
+pub last_is : (old new : List Tree) (t : Tree) → old ≡ new ++ t ∷ [] → part_of t ≡ last_part (parts_of old)
+last_is old new t is = sym (ap (λ ts. last_part (stack_onto ts [])) is ∙ ap last_part (onto_push new t []))
 
-pub before_is : (old new : List Tree) (t : Tree) → old ≡ new ++ t ∷ [] → parts_of new ≡ made_before (parts_of old)
-before_is old new t is = sym (ap (λ ts. made_before (onto ts [])) is ∙ ap made_before (onto_push new t []))
+pub before_is : (old new : List Tree) (t : Tree) → old ≡ new ++ t ∷ [] → parts_of new ≡ earlier_parts (parts_of old)
+before_is old new t is = sym (ap (λ ts. earlier_parts (stack_onto ts [])) is ∙ ap earlier_parts (onto_push new t []))
 
 -- ---- the part of a function is that over the functions above it
 
@@ -71,9 +71,9 @@ grown t fs above i f body p is cut lt same value =
     let long : length above ≡ i = ap length cut ∙ take_length fs i lt in
     part_of_func t fs i f is ∙ sym (ap Some (value ∙ (λ j. list_part (parts t [] (cut j)) (costs_in t (long j)) (same j) 0 false)))
 
-pub grown_step : (qs : List Part) (old new : List Piece) (x : Piece) (trees mid end : List Tree) (t : Tree) (all : List Part) → old ≡ new ++ x ∷ [] → part_of t ∷ parts_of mid ≡ one_made qs x (parts_of trees) → end ≡ mid ++ t ∷ [] → made qs old (parts_of trees) ≡ all → made qs new (parts_of end) ≡ all
+pub grown_step : (qs : List Part) (old new : List Piece) (x : Piece) (trees mid end : List Tree) (t : Tree) (all : List Part) → old ≡ new ++ x ∷ [] → part_of t ∷ parts_of mid ≡ stack_after_piece qs x (parts_of trees) → end ≡ mid ++ t ∷ [] → stack_after qs old (parts_of trees) ≡ all → stack_after qs new (parts_of end) ≡ all
 grown_step qs old new x trees mid end t all pop makes push h =
-    ap (λ ts. made qs new (onto ts [])) push ∙ ap (made qs new) (onto_push mid t []) ∙ ap (made qs new) makes ∙ sym (made_append qs new (x ∷ []) (parts_of trees)) ∙ sym (ap (λ xs. made qs xs (parts_of trees)) pop) ∙ h
+    ap (λ ts. stack_after qs new (stack_onto ts [])) push ∙ ap (stack_after qs new) (onto_push mid t []) ∙ ap (stack_after qs new) makes ∙ sym (stack_after_append qs new (x ∷ []) (parts_of trees)) ∙ sym (ap (λ xs. stack_after qs xs (parts_of trees)) pop) ∙ h
 
 pub entry_is : (p : Program) (t : Costs) → entry_part p t ≡ unwrap_or (slice_get (parts_above t p.funcs) p.entry) Nothing
 unfolding entry_part

@@ -11,8 +11,8 @@ use Rattle.c_tree.specs.Blocks.{is_simple, blocks, row_blocks, held_blocks, list
 use Rattle.c_tree.specs.Statements.{held}
 use Rattle.peak_laws.specs.declared.ways.Leaving.TheVariants as leaving
 use Rattle.peak_laws.specs.Parts as spec
-use Rattle.peak_laws.specs.ProgramParts.{joined, call_part, held_step, step_part, part, row_part, held_part, list_part}
-use Rattle.ipet_peak.specs.Pieces.{one_made, made}
+use Rattle.peak_laws.specs.ProgramParts.{sequence, call_part, held_step, step_part, part, row_part, held_part, list_part}
+use Rattle.ipet_peak.specs.Pieces.{stack_after_piece, stack_after}
 use Rattle.ipet_peak.specs.declared.pieces.Piece.{Piece}
 use Rattle.peak_laws.proofs.Programs.{row_parts}
 
@@ -65,10 +65,10 @@ pub part-Do : (qs : List spec.Part) (cost : ℕ → ℕ) (l : ℕ) (xs : List St
 unfolding part
 part-Do qs cost l xs e b = λ i. spec.Do (cost (b + row_is xs false i)) (l - 1) (row_parts qs cost xs b false i)
 
-pub part-For : (qs : List spec.Part) (cost : ℕ → ℕ) (l : ℕ) (a c : Option Stmt) (e : Expr) (xs : List Stmt) (b : ℕ) → part qs cost (For l a e c xs) b ≡ let bc = b + list_blocks (held a) false in joined (list_part qs cost (held a) b false) (spec.While (cost bc) (l - 1) (step_part c (cost (bc + 1))) (list_part qs cost xs (bc + 1 + list_blocks (held c) false) false))
+pub part-For : (qs : List spec.Part) (cost : ℕ → ℕ) (l : ℕ) (a c : Option Stmt) (e : Expr) (xs : List Stmt) (b : ℕ) → part qs cost (For l a e c xs) b ≡ let bc = b + list_blocks (held a) false in sequence (list_part qs cost (held a) b false) (spec.While (cost bc) (l - 1) (step_part c (cost (bc + 1))) (list_part qs cost xs (bc + 1 + list_blocks (held c) false) false))
 unfolding part
 part-For qs cost l a c e xs b =
-    λ i. let bc = b + held_is a i in joined (held_parts qs cost a b i) (spec.While (cost bc) (l - 1) (steps_are c (cost (bc + 1)) i) (row_parts qs cost xs (bc + 1 + held_is c i) false i))
+    λ i. let bc = b + held_is a i in sequence (held_parts qs cost a b i) (spec.While (cost bc) (l - 1) (steps_are c (cost (bc + 1)) i) (row_parts qs cost xs (bc + 1 + held_is c i) false i))
 
 pub part-Group : (qs : List spec.Part) (cost : ℕ → ℕ) (xs : List Stmt) (b : ℕ) → part qs cost (Group xs) b ≡ list_part qs cost xs b false
 unfolding part
@@ -78,6 +78,6 @@ pub ruleset part_layers = (part-Call, part-Break, part-Continue, part-Return, pa
 
 -- ---- pieces
 
-pub made_append : (qs : List spec.Part) (xs ys : List Piece) (ps : List spec.Part) → made qs (xs ++ ys) ps ≡ made qs xs (made qs ys ps)
-made_append qs [] ys ps = refl
-made_append qs (x ∷ xs) ys ps = ap (one_made qs x) (made_append qs xs ys ps)
+pub stack_after_append : (qs : List spec.Part) (xs ys : List Piece) (ps : List spec.Part) → stack_after qs (xs ++ ys) ps ≡ stack_after qs xs (stack_after qs ys ps)
+stack_after_append qs [] ys ps = refl
+stack_after_append qs (x ∷ xs) ys ps = ap (stack_after_piece qs x) (stack_after_append qs xs ys ps)

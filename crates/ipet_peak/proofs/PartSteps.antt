@@ -14,51 +14,51 @@ use Rattle.ipet_peak.specs.declared.pieces.Piece.{Piece}
 use Rattle.ipet_peak.specs.declared.pieces.Piece.TheVariants as piece
 use Rattle.peak_laws.specs.Parts.{Part, Nothing, Block, Then, Choice, While, Do, Body}
 use Rattle.peak_laws.specs.declared.ways.Leaving.TheVariants.{ByEnd}
-use Rattle.peak_laws.specs.ProgramParts.{joined, pending, past_run, call_part, step_part, part, list_part, func_part, parts}
-use Rattle.ipet_peak.specs.Pieces.{one_made, made, Adds}
+use Rattle.peak_laws.specs.ProgramParts.{sequence, pending_block, block_past_run, call_part, step_part, part, list_part, func_part, parts}
+use Rattle.ipet_peak.specs.Pieces.{stack_after_piece, stack_after, Adds}
 use Rattle.ipet_peak.proofs.PartLayers.{part-For}
 
 -- what is added up to a place of a list, and the rest from there on, make the part p
 pub record Stands (qs : List Part) (cost : ℕ → ℕ) (xs : List Stmt) (run : Bool) (b : ℕ) (out first : List Piece) (p : Part) (end : ℕ) : Type 0 where
-  pub numbers : past_run run b + list_blocks xs run ≡ end
-  pub makes : (ps : List Part) → made qs out (list_part qs cost xs b run ∷ ps) ≡ made qs first (p ∷ ps)
+  pub numbers : block_past_run run b + list_blocks xs run ≡ end
+  pub makes : (ps : List Part) → stack_after qs out (list_part qs cost xs b run ∷ ps) ≡ stack_after qs first (p ∷ ps)
 
 pub at_first : (qs : List Part) (cost : ℕ → ℕ) (xs : List Stmt) (b : ℕ) (out : List Piece) → Stands qs cost xs false b out out (list_part qs cost xs b false) (b + list_blocks xs false)
 at_first qs cost xs b out = record { numbers = refl; makes = λ ps. refl }
 
-past_begun : (run : Bool) (b : ℕ) → past_run run b + begun run ≡ b + 1
+past_begun : (run : Bool) (b : ℕ) → block_past_run run b + begun run ≡ b + 1
 past_begun true b = omega arith
 past_begun false b = refl
 
-simple_part : (qs : List Part) (cost : ℕ → ℕ) (x : Stmt) (rest : List Stmt) (b : ℕ) (run c : Bool) → is_simple x ≡ c → list_part qs cost (x ∷ rest) b run ≡ (if c then list_part qs cost rest b true else joined (pending run (cost b)) (joined (part qs cost x (past_run run b)) (list_part qs cost rest (past_run run b + blocks x false) false)))
+simple_part : (qs : List Part) (cost : ℕ → ℕ) (x : Stmt) (rest : List Stmt) (b : ℕ) (run c : Bool) → is_simple x ≡ c → list_part qs cost (x ∷ rest) b run ≡ (if c then list_part qs cost rest b true else sequence (pending_block run (cost b)) (sequence (part qs cost x (block_past_run run b)) (list_part qs cost rest (block_past_run run b + blocks x false) false)))
 simple_part qs cost x rest b run c is =
-    ap (λ d. if d then list_part qs cost rest b true else joined (pending run (cost b)) (joined (part qs cost x (past_run run b)) (list_part qs cost rest (past_run run b + blocks x false) false))) is
+    ap (λ d. if d then list_part qs cost rest b true else sequence (pending_block run (cost b)) (sequence (part qs cost x (block_past_run run b)) (list_part qs cost rest (block_past_run run b + blocks x false) false))) is
 
 pub simple_step : (qs : List Part) (cost : ℕ → ℕ) (xs rest : List Stmt) (x : Stmt) (run : Bool) (b : ℕ) (out first : List Piece) (p : Part) (end : ℕ) → xs ≡ x ∷ rest → is_simple x ≡ true → Stands qs cost xs run b out first p end → Stands qs cost rest true b out first p end
 simple_step qs cost xs rest x run b out first p end is simple h =
-    let numbers = ap (λ ys. past_run run b + list_blocks ys run) is in
+    let numbers = ap (λ ys. block_past_run run b + list_blocks ys run) is in
     let one = simple_blocks x run simple in
     let tail = ap (λ c. list_blocks rest c) simple in
     let same = ap (λ ys. list_part qs cost ys b run) is ∙ simple_part qs cost x rest b run true simple in
     record {
       numbers = omega (arith, h.numbers, numbers, one, tail, past_begun run b);
-      makes = λ ps. ap (λ q. made qs out (q ∷ ps)) (sym same) ∙ h.makes ps;
+      makes = λ ps. ap (λ q. stack_after qs out (q ∷ ps)) (sym same) ∙ h.makes ps;
     }
 
-pub plain_step : (qs : List Part) (cost : ℕ → ℕ) (xs rest : List Stmt) (x : Stmt) (run : Bool) (b b1 b2 : ℕ) (out o1 o2 o3 o4 first : List Piece) (p : Part) (end : ℕ) → xs ≡ x ∷ rest → is_simple x ≡ false → b1 ≡ past_run run b → b2 ≡ b1 + blocks x false
-    → ((rs ps : List Part) → made rs o1 ps ≡ made rs out (one_made rs piece.Join ps)) → ((rs : List Part) → Adds rs o1 o2 (pending run (cost b))) → ((rs ps : List Part) → made rs o3 ps ≡ made rs o2 (one_made rs piece.Join ps)) → Adds qs o3 o4 (part qs cost x b1)
+pub plain_step : (qs : List Part) (cost : ℕ → ℕ) (xs rest : List Stmt) (x : Stmt) (run : Bool) (b b1 b2 : ℕ) (out o1 o2 o3 o4 first : List Piece) (p : Part) (end : ℕ) → xs ≡ x ∷ rest → is_simple x ≡ false → b1 ≡ block_past_run run b → b2 ≡ b1 + blocks x false
+    → ((rs ps : List Part) → stack_after rs o1 ps ≡ stack_after rs out (stack_after_piece rs piece.Join ps)) → ((rs : List Part) → Adds rs o1 o2 (pending_block run (cost b))) → ((rs ps : List Part) → stack_after rs o3 ps ≡ stack_after rs o2 (stack_after_piece rs piece.Join ps)) → Adds qs o3 o4 (part qs cost x b1)
     → Stands qs cost xs run b out first p end → Stands qs cost rest false b2 o4 first p end
 plain_step qs cost xs rest x run b b1 b2 out o1 o2 o3 o4 first p end is plain one two h1 h2 h3 h4 h =
-    let numbers = ap (λ ys. past_run run b + list_blocks ys run) is in
+    let numbers = ap (λ ys. block_past_run run b + list_blocks ys run) is in
     let count = plain_blocks x run plain in
     let tail = ap (λ c. list_blocks rest c) plain in
     let same = ap (λ ys. list_part qs cost ys b run) is ∙ simple_part qs cost x rest b run false plain in
-    let at : b2 ≡ past_run run b + blocks x false = two ∙ ap (λ n. n + blocks x false) one in
+    let at : b2 ≡ block_past_run run b + blocks x false = two ∙ ap (λ n. n + blocks x false) one in
     let q = λ (n : ℕ). list_part qs cost rest n false in
     let y = λ (n : ℕ). part qs cost x n in
     record {
       numbers = omega (arith, h.numbers, numbers, count, tail, at);
-      makes = λ ps. h4 (q b2 ∷ ps) ∙ h3 qs (y b1 ∷ (q b2 ∷ ps)) ∙ h2 qs (joined (y b1) (q b2) ∷ ps) ∙ h1 qs (pending run (cost b) ∷ (joined (y b1) (q b2) ∷ ps)) ∙ (λ i. made qs out (joined (pending run (cost b)) (joined (y (one i)) (q (at i))) ∷ ps)) ∙ ap (λ z. made qs out (z ∷ ps)) (sym same) ∙ h.makes ps;
+      makes = λ ps. h4 (q b2 ∷ ps) ∙ h3 qs (y b1 ∷ (q b2 ∷ ps)) ∙ h2 qs (sequence (y b1) (q b2) ∷ ps) ∙ h1 qs (pending_block run (cost b) ∷ (sequence (y b1) (q b2) ∷ ps)) ∙ (λ i. stack_after qs out (sequence (pending_block run (cost b)) (sequence (y (one i)) (q (at i))) ∷ ps)) ∙ ap (λ z. stack_after qs out (z ∷ ps)) (sym same) ∙ h.makes ps;
     }
 
 pub reread : (qs : List Part) (cost : ℕ → ℕ) (xs : List Stmt) (run run' : Bool) (b b' : ℕ) (out out' first : List Piece) (p : Part) (end : ℕ) → run ≡ run' → b ≡ b' → out ≡ out' → Stands qs cost xs run b out first p end → Stands qs cost xs run' b' out' first p end
@@ -66,7 +66,7 @@ reread qs cost xs run run' b b' out out' first p end r n o h =
     subst (λ c. Stands qs cost xs c b' out' first p end) r (subst (λ m. Stands qs cost xs run m out' first p end) n (subst (λ z. Stands qs cost xs run b z first p end) o h))
 
 -- nothing before and behind
-pub alone : (p : Part) → joined Nothing (joined p Nothing) ≡ p
+pub alone : (p : Part) → sequence Nothing (sequence p Nothing) ≡ p
 alone Nothing = refl
 alone (Block c l) = refl
 alone (Then p q) = refl
@@ -102,15 +102,15 @@ call_none o c h = ap (λ p. call_part p c) (sym h)
 -- ---- `for`
 
 pub for_is : (qs : List Part) (cost : ℕ → ℕ) (st : Stmt) (l : ℕ) (a k : Option Stmt) (e : Expr) (xs ys : List Stmt) (at test after inner n w spare : ℕ) (each : Option ℕ) → st ≡ For l a e k xs → ys ≡ xs → test ≡ at + list_blocks (held a) false → after ≡ test + 1 → inner ≡ after + n → n ≡ list_blocks (held k) false → w ≡ cost test → spare ≡ l - 1 → each ≡ step_part k (cost after)
-    → joined (list_part qs cost (held a) at false) (While w spare each (list_part qs cost ys inner false)) ≡ part qs cost st at
+    → sequence (list_part qs cost (held a) at false) (While w spare each (list_part qs cost ys inner false)) ≡ part qs cost st at
 for_is qs cost st l a k e xs ys at test after inner n w spare each is same t f i m wc sl es =
     let f' = f ∙ ap (λ z. z + 1) t in
     let i' = i ∙ (λ j. f' j + m j) in
-    (λ j. joined (list_part qs cost (held a) at false) (While ((wc ∙ ap cost t) j) (sl j) ((es ∙ ap (λ z. step_part k (cost z)) f') j) (list_part qs cost (same j) (i' j) false))) ∙ sym (ap (λ s. part qs cost s at) is ∙ part-For qs cost l a k e xs at)
+    (λ j. sequence (list_part qs cost (held a) at false) (While ((wc ∙ ap cost t) j) (sl j) ((es ∙ ap (λ z. step_part k (cost z)) f') j) (list_part qs cost (same j) (i' j) false))) ∙ sym (ap (λ s. part qs cost s at) is ∙ part-For qs cost l a k e xs at)
 
 -- at the end of the list
 pub at_last : (qs : List Part) (cost : ℕ → ℕ) (xs : List Stmt) (i : ℕ) (run : Bool) (b : ℕ) (out first : List Piece) (p : Part) (end : ℕ) → length xs ≤ i → Stands qs cost (drop i xs) run b out first p end
-    → (past_run run b ≡ end) × ((ps : List Part) → made qs out (pending run (cost b) ∷ ps) ≡ made qs first (p ∷ ps))
+    → (block_past_run run b ≡ end) × ((ps : List Part) → stack_after qs out (pending_block run (cost b) ∷ ps) ≡ stack_after qs first (p ∷ ps))
 at_last qs cost xs i run b out first p end le h =
     let none : drop i xs ≡ [] = drop_all i xs le in
-    (omega (arith, h.numbers, ap (λ ys. list_blocks ys run) none), λ ps. ap (λ ys. made qs out (list_part qs cost ys b run ∷ ps)) (sym none) ∙ h.makes ps)
+    (omega (arith, h.numbers, ap (λ ys. list_blocks ys run) none), λ ps. ap (λ ys. stack_after qs out (list_part qs cost ys b run ∷ ps)) (sym none) ∙ h.makes ps)

@@ -14,10 +14,10 @@ use Rattle.flow_graph.proofs.Measured.{all_within, entered, limits}
 use Rattle.ipet_rows.specs.CapsBound.{caps_bound}
 use Rattle.peak_laws.specs.Parts.{Part}
 use Rattle.peak_laws.specs.ProgramParts.{program_part}
-use Rattle.peak_laws.specs.Hefts.{heft, loop_count, reach, EachMost, node_caps}
-use Rattle.ipet_peak.specs.Trees.{Fit}
+use Rattle.peak_laws.specs.Magnitudes.{cap_cost, loop_count, excess, EachIsAtMost, node_caps}
+use Rattle.ipet_peak.specs.Trees.{FitsCaps}
 use Rattle.peak_laws.proofs.Places.{Agrees}
-use Rattle.peak_laws.proofs.Hefts.{reach_most}
+use Rattle.peak_laws.proofs.Magnitudes.{excess_most}
 use Rattle.peak_laws.proofs.DualFits.{is_small}
 use Rattle.peak_laws.proofs.Programs.{program_shaped}
 
@@ -26,25 +26,25 @@ cap_within [] v h = omega arith
 cap_within (s ∷ g) zero h = h.0
 cap_within (s ∷ g) (suc v) h = cap_within g v h.1
 
-each_within : (f : ℕ → ℕ) (x n : ℕ) (ns : List ℕ) → ((v : ℕ) → f v ≤ x) → Agrees f n ns → EachMost x ns
+each_within : (f : ℕ → ℕ) (x n : ℕ) (ns : List ℕ) → ((v : ℕ) → f v ≤ x) → Agrees f n ns → EachIsAtMost x ns
 each_within f x n [] most h = tt
 each_within f x n (c ∷ ns) most h = (subst (λ z. z ≤ x) h.0 (most n), each_within f x (n + 1) ns most h.1)
 
 pub record HasRoom (q : Part) : Type 0 where
-  pub light : heft q ≤ 2 ^ 124
-  pub room : reach q ≤ 2 ^ 124
-  pub fit : Fit q 1
+  pub light : cap_cost q ≤ 2 ^ 124
+  pub room : excess q ≤ 2 ^ 124
+  pub fit : FitsCaps q 1
 
 pub plan_room : (p : Program) (t : Costs) (q : Part) → WellFormed p → caps_bound t (graph p) ≤ 2 ^ 97 → refusal (graph p) ≡ None → q ≡ program_part p t → HasRoom q
 plan_room p t q formed caps allowed is =
     let o = program_part p t in
     let g = graph p in
     let small = is_small p t formed caps allowed in
-    let all : loop_count o * heft o ≤ 2048 * 2 ^ 97 = omega (arith, mul-le-mul_left (loop_count o) small.heft, small.loops) in
+    let all : loop_count o * cap_cost o ≤ 2048 * 2 ^ 97 = omega (arith, mul-le-mul_left (loop_count o) small.cap_cost, small.loops) in
     let within = all_within p (entered p formed.entry) (limits g allowed).caps in
     subst HasRoom (sym is) (record {
-      light = omega (arith, small.heft);
-      room = omega (arith, small.heft, all, reach_most o (heft o) (omega arith));
+      light = omega (arith, small.cap_cost);
+      room = omega (arith, small.cap_cost, all, excess_most o (cap_cost o) (omega arith));
       fit = record { entries = omega arith; caps = each_within (λ v. cap_of (slice_get g v)) (2 ^ 40) 2 (node_caps o 1) (λ v. cap_within g v within) (program_shaped p t formed).caps_agree };
     })
 

@@ -2,13 +2,13 @@
 use Rattle.std.proofs.Common.{◌≡◌, ℕ, ℤ, pos, List, [], ◌∷◌, ◌++◌, map, Option, None, refl, sym, ap, ◌∙◌, append_assoc, ◌≤◌, ◌+◌, Some, arith}
 use Rattle.ipet_peak.specs.declared.tree.Tree.{Tree}
 use Rattle.ipet_peak.specs.declared.tree.Tree.TheVariants as tree
-use Rattle.peak_laws.specs.Parts.{Part, turn, dear, from_entry}
+use Rattle.peak_laws.specs.Parts.{Part, turn, dearest_ways, from_entry}
 use Rattle.peak_laws.specs.declared.ways.Leaving.{Leaving}
-use Rattle.ipet_peak.specs.Trees.{part_of, turns_of, reached, best, tallest}
+use Rattle.ipet_peak.specs.Trees.{part_of, turns_of, cost_by_way, dearest_cost, greatest_target}
 use Rattle.flow_laws.specs.Sites.{Targets}
 use Rattle.peak_laws.proofs.Dearest.{UpTo, upper, lower}
-use Rattle.peak_laws.specs.Hefts.{heft}
-use Rattle.peak_laws.proofs.Hefts.{Below, entry_most}
+use Rattle.peak_laws.specs.Magnitudes.{cap_cost}
+use Rattle.peak_laws.proofs.Magnitudes.{Below, entry_most}
 use Rattle.ipet_peak.proofs.TreeLayers.{part-Nothing, part-Block, part-Then, part-Choice, part-While, part-Do}
 
 map_append : (p q : List ℕ) → map pos (p ++ q) ≡ map pos p ++ map pos q
@@ -42,34 +42,34 @@ pub turns_choice : (t a b x y : Tree) (c : ℕ) → t ≡ tree.Choice c a b → 
 turns_choice t a b x y c is xa yb =
     ap (λ z. turns_of (part_of z)) is ∙ ap turns_of (part-Choice c a b) ∙ sym (λ i. turns_of (part_of (xa i)) ++ turns_of (part_of (yb i)))
 
-pub turns_while : (t a x : Tree) (c m v : ℕ) (s : Option ℕ) → t ≡ tree.While c m s a → x ≡ a → v ≡ turn c s (dear (part_of a)) → turns_of (part_of t) ≡ v ∷ turns_of (part_of x)
+pub turns_while : (t a x : Tree) (c m v : ℕ) (s : Option ℕ) → t ≡ tree.While c m s a → x ≡ a → v ≡ turn c s (dearest_ways (part_of a)) → turns_of (part_of t) ≡ v ∷ turns_of (part_of x)
 turns_while t a x c m v s is xa vy =
     ap (λ z. turns_of (part_of z)) is ∙ ap turns_of (part-While c m s a) ∙ sym (λ i. vy i ∷ turns_of (part_of (xa i)))
 
-pub turns_do : (t a x : Tree) (c m v : ℕ) → t ≡ tree.Do c m a → x ≡ a → v ≡ turn c None (dear (part_of a)) → turns_of (part_of t) ≡ turns_of (part_of x) ++ (v ∷ [])
+pub turns_do : (t a x : Tree) (c m v : ℕ) → t ≡ tree.Do c m a → x ≡ a → v ≡ turn c None (dearest_ways (part_of a)) → turns_of (part_of t) ≡ turns_of (part_of x) ++ (v ∷ [])
 turns_do t a x c m v is xa vy =
     ap (λ z. turns_of (part_of z)) is ∙ ap turns_of (part-Do c m a) ∙ sym (λ i. turns_of (part_of (xa i)) ++ (vy i ∷ []))
 
 -- ---- what a part costs from its entry on is its best way
 
-reached_most : (o : Option ℕ) (t x : ℕ) → UpTo 0 o t x → reached o t ≤ x
-reached_most None t x h = omega arith
-reached_most (Some d) t x h = omega (arith, h)
+cost_by_way_most : (o : Option ℕ) (t x : ℕ) → UpTo 0 o t x → cost_by_way o t ≤ x
+cost_by_way_most None t x h = omega arith
+cost_by_way_most (Some d) t x h = omega (arith, h)
 
-most_reached : (o : Option ℕ) (t x : ℕ) → reached o t ≤ x → UpTo 0 o t x
-most_reached None t x h = tt
-most_reached (Some d) t x h = omega (arith, h)
+most_cost_by_way : (o : Option ℕ) (t x : ℕ) → cost_by_way o t ≤ x → UpTo 0 o t x
+most_cost_by_way None t x h = tt
+most_cost_by_way (Some d) t x h = omega (arith, h)
 
-pub best_is : (p : Part) (t : Targets) → from_entry p t ≡ best (dear p) t
-best_is p t =
-    let w = dear p in
+pub dearest_cost_is : (p : Part) (t : Targets) → from_entry p t ≡ dearest_cost (dearest_ways p) t
+dearest_cost_is p t =
+    let w = dearest_ways p in
     let low = lower p t in
-    let x = best w t in
-    let high = upper p 0 x t (record { next = most_reached w.next t.next x (omega arith); breaks = most_reached w.breaks t.breaks x (omega arith); continues = most_reached w.continues t.continues x (omega arith); returns = most_reached w.returns t.returns x (omega arith) }) in
-    omega (arith, high, reached_most w.next t.next (from_entry p t) low.next, reached_most w.breaks t.breaks (from_entry p t) low.breaks, reached_most w.continues t.continues (from_entry p t) low.continues, reached_most w.returns t.returns (from_entry p t) low.returns)
+    let x = dearest_cost w t in
+    let high = upper p 0 x t (record { next = most_cost_by_way w.next t.next x (omega arith); breaks = most_cost_by_way w.breaks t.breaks x (omega arith); continues = most_cost_by_way w.continues t.continues x (omega arith); returns = most_cost_by_way w.returns t.returns x (omega arith) }) in
+    omega (arith, high, cost_by_way_most w.next t.next (from_entry p t) low.next, cost_by_way_most w.breaks t.breaks (from_entry p t) low.breaks, cost_by_way_most w.continues t.continues (from_entry p t) low.continues, cost_by_way_most w.returns t.returns (from_entry p t) low.returns)
 
-below_tallest : (t : Targets) → Below t (tallest t)
+below_tallest : (t : Targets) → Below t (greatest_target t)
 below_tallest t = record { next = omega arith; breaks = omega arith; continues = omega arith; returns = omega arith }
 
-pub entry_tallest : (p : Part) (t : Targets) → from_entry p t ≤ heft p + tallest t
-entry_tallest p t = entry_most p t (tallest t) (below_tallest t)
+pub entry_tallest : (p : Part) (t : Targets) → from_entry p t ≤ cap_cost p + greatest_target t
+entry_tallest p t = entry_most p t (greatest_target t) (below_tallest t)

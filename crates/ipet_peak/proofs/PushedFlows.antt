@@ -4,14 +4,14 @@ use Rattle.std.proofs.Math.Nat.{mul-le-mul_left}
 use Rattle.flow_laws.specs.Sites.{Targets}
 use Rattle.ipet_peak.specs.declared.tree.Tree.{Tree}
 use Rattle.ipet_peak.specs.declared.tree.Tree.TheVariants as tree
-use Rattle.peak_laws.specs.Parts.{Part, Then, Choice, While, Do, Body, both, dear, turn}
+use Rattle.peak_laws.specs.Parts.{Part, Then, Choice, While, Do, Body, both, dearest_ways, turn}
 use Rattle.peak_laws.specs.declared.ways.Ways.{Ways}
-use Rattle.peak_laws.specs.Flows.{by_first, by_second, whole, then_first, then_second, choice_first, choice_second, made, inner, step_flows, flows}
-use Rattle.peak_laws.specs.Hefts.{heft, EachMost, node_caps, step_caps}
-use Rattle.ipet_peak.specs.Trees.{part_of, Fit}
+use Rattle.peak_laws.specs.Flows.{by_first, by_second, whole, then_first, then_second, choice_first, choice_second, amount_by_way, loop_body_amounts, step_flows, flows}
+use Rattle.peak_laws.specs.Magnitudes.{cap_cost, EachIsAtMost, node_caps, step_caps}
+use Rattle.ipet_peak.specs.Trees.{part_of, FitsCaps}
 use Rattle.peak_laws.proofs.Amounts.{shared}
-use Rattle.peak_laws.proofs.Hefts.{light, turn_light}
-use Rattle.peak_laws.proofs.Turned.{made_most}
+use Rattle.peak_laws.proofs.Magnitudes.{light, turn_light}
+use Rattle.peak_laws.proofs.Turned.{amount_by_way_most}
 use Rattle.peak_laws.proofs.Places.{Every}
 use Rattle.peak_laws.proofs.Ranges.{UpTo, every_left, every_right}
 use Rattle.ipet_peak.proofs.Supplies.{caps_fewer}
@@ -24,79 +24,79 @@ pub then_most : (v w : Ways) (a : Targets) → whole (then_second v w a) ≤ who
 then_most v w a =
     omega (arith, shared v.breaks (both v.next w.breaks) a.breaks, shared v.continues (both v.next w.continues) a.continues, shared v.returns (both v.next w.returns) a.returns)
 
-pub inner_whole : (w : Ways) (f b r : ℕ) → whole (inner w f b r) ≡ f + (b + r)
+pub inner_whole : (w : Ways) (f b r : ℕ) → whole (loop_body_amounts w f b r) ≡ f + (b + r)
 inner_whole w f b r = omega (arith, shared w.next w.continues f)
 
-pub while_light : (c m : ℕ) (s : Option ℕ) (p : Part) → (m + 1) * turn c s (dear p) + c ≤ heft (While c m s p)
+pub while_light : (c m : ℕ) (s : Option ℕ) (p : Part) → (m + 1) * turn c s (dearest_ways p) + c ≤ cap_cost (While c m s p)
 while_light c m s p =
     let each = turn_light c s p (light p) in
     omega (arith, each, mul-le-mul_left m each)
 
-pub do_light : (c m : ℕ) (p : Part) → m * turn c None (dear p) + c ≤ heft (Do c m p)
+pub do_light : (c m : ℕ) (p : Part) → m * turn c None (dearest_ways p) + c ≤ cap_cost (Do c m p)
 do_light c m p =
     let each = turn_light c None p (light p) in
     omega (arith, each, mul-le-mul_left m each)
 
 -- a loop that is left s times by its condition and b times by others makes f full turns
-pub while_most : (m s b x f : ℕ) (o : Option ℕ) → s + b ≤ x → f ≡ made o ((m + 1) * s + m * b) → ((m + 1) * s + m * b + b ≤ x * (m + 1)) × (f + b ≤ x * (m + 1))
+pub while_most : (m s b x f : ℕ) (o : Option ℕ) → s + b ≤ x → f ≡ amount_by_way o ((m + 1) * s + m * b) → ((m + 1) * s + m * b + b ≤ x * (m + 1)) × (f + b ≤ x * (m + 1))
 while_most m s b x f o le is =
     let all = mul-le-mul_left (m + 1) le in
-    (omega (arith, all), omega (arith, all, is, made_most o ((m + 1) * s + m * b)))
+    (omega (arith, all), omega (arith, all, is, amount_by_way_most o ((m + 1) * s + m * b)))
 
-pub do_most : (m s b x f : ℕ) (o : Option ℕ) → s + b ≤ x → f ≡ made o (m * (s + b)) → (m * (s + b) + (s + b) ≤ x * (m + 1)) × (f + (s + b) ≤ x * (m + 1))
+pub do_most : (m s b x f : ℕ) (o : Option ℕ) → s + b ≤ x → f ≡ amount_by_way o (m * (s + b)) → (m * (s + b) + (s + b) ≤ x * (m + 1)) × (f + (s + b) ≤ x * (m + 1))
 do_most m s b x f o le is =
     let all = mul-le-mul_left (m + 1) le in
-    (omega (arith, all), omega (arith, all, is, made_most o (m * (s + b))))
+    (omega (arith, all), omega (arith, all, is, amount_by_way_most o (m * (s + b))))
 
 -- ---- a part that is entered so often fits, and so do its parts
 
-each_every : (x : ℕ) (ns : List ℕ) → EachMost x ns → Every (UpTo x) ns
+each_every : (x : ℕ) (ns : List ℕ) → EachIsAtMost x ns → Every (UpTo x) ns
 each_every x [] h = tt
 each_every x (n ∷ ns) h = (h.0, each_every x ns h.1)
 
-every_each : (x : ℕ) (ns : List ℕ) → Every (UpTo x) ns → EachMost x ns
+every_each : (x : ℕ) (ns : List ℕ) → Every (UpTo x) ns → EachIsAtMost x ns
 every_each x [] h = tt
 every_each x (n ∷ ns) h = (h.0, every_each x ns h.1)
 
-left : (x : ℕ) (ms ns : List ℕ) → EachMost x (ms ++ ns) → EachMost x ms
+left : (x : ℕ) (ms ns : List ℕ) → EachIsAtMost x (ms ++ ns) → EachIsAtMost x ms
 left x ms ns h = every_each x ms (every_left x ms ns (each_every x (ms ++ ns) h))
 
-right : (x : ℕ) (ms ns : List ℕ) → EachMost x (ms ++ ns) → EachMost x ns
+right : (x : ℕ) (ms ns : List ℕ) → EachIsAtMost x (ms ++ ns) → EachIsAtMost x ns
 right x ms ns h = every_each x ns (every_right x ms ns (each_every x (ms ++ ns) h))
 
-pub fit_less : (p : Part) (j k : ℕ) → j ≤ k → Fit p k → Fit p j
+pub fit_less : (p : Part) (j k : ℕ) → j ≤ k → FitsCaps p k → FitsCaps p j
 fit_less p j k le h =
     record { entries = omega (arith, le, h.entries); caps = every_each (2 ^ 40) (node_caps p j) (caps_fewer p j k (2 ^ 40) le (each_every (2 ^ 40) (node_caps p k) h.caps)) }
 
-pub fit_then : (t a b : Tree) (k : ℕ) → t ≡ tree.Then a b → Fit (part_of t) k → Fit (part_of a) k × Fit (part_of b) k
+pub fit_then : (t a b : Tree) (k : ℕ) → t ≡ tree.Then a b → FitsCaps (part_of t) k → FitsCaps (part_of a) k × FitsCaps (part_of b) k
 fit_then t a b k is h =
-    let g : Fit (Then (part_of a) (part_of b)) k = subst (λ p. Fit p k) (ap part_of is ∙ part-Then a b) h in
+    let g : FitsCaps (Then (part_of a) (part_of b)) k = subst (λ p. FitsCaps p k) (ap part_of is ∙ part-Then a b) h in
     let p = node_caps (part_of a) k in
     let q = node_caps (part_of b) k in
     (record { entries = g.entries; caps = left (2 ^ 40) p q g.caps }, record { entries = g.entries; caps = right (2 ^ 40) p q g.caps })
 
-pub fit_choice : (t a b : Tree) (c k : ℕ) → t ≡ tree.Choice c a b → Fit (part_of t) k → Fit (part_of a) k × Fit (part_of b) k
+pub fit_choice : (t a b : Tree) (c k : ℕ) → t ≡ tree.Choice c a b → FitsCaps (part_of t) k → FitsCaps (part_of a) k × FitsCaps (part_of b) k
 fit_choice t a b c k is h =
-    let g : Fit (Choice c (part_of a) (part_of b)) k = subst (λ p. Fit p k) (ap part_of is ∙ part-Choice c a b) h in
+    let g : FitsCaps (Choice c (part_of a) (part_of b)) k = subst (λ p. FitsCaps p k) (ap part_of is ∙ part-Choice c a b) h in
     let p = node_caps (part_of a) k in
     let q = node_caps (part_of b) k in
     (record { entries = g.entries; caps = left (2 ^ 40) p q g.caps.1 }, record { entries = g.entries; caps = right (2 ^ 40) p q g.caps.1 })
 
-pub fit_while : (t a : Tree) (c m : ℕ) (s : Option ℕ) (k : ℕ) → t ≡ tree.While c m s a → Fit (part_of t) k → Fit (part_of a) (k * (m + 1))
+pub fit_while : (t a : Tree) (c m : ℕ) (s : Option ℕ) (k : ℕ) → t ≡ tree.While c m s a → FitsCaps (part_of t) k → FitsCaps (part_of a) (k * (m + 1))
 fit_while t a c m s k is h =
-    let g : Fit (While c m s (part_of a)) k = subst (λ p. Fit p k) (ap part_of is ∙ part-While c m s a) h in
+    let g : FitsCaps (While c m s (part_of a)) k = subst (λ p. FitsCaps p k) (ap part_of is ∙ part-While c m s a) h in
     record { entries = omega (arith, g.caps.0); caps = right (2 ^ 40) (step_caps s (k * (m + 1))) (node_caps (part_of a) (k * (m + 1))) g.caps.1 }
 
-pub fit_do : (t a : Tree) (c m k : ℕ) → t ≡ tree.Do c m a → Fit (part_of t) k → Fit (part_of a) (k * (m + 1))
+pub fit_do : (t a : Tree) (c m k : ℕ) → t ≡ tree.Do c m a → FitsCaps (part_of t) k → FitsCaps (part_of a) (k * (m + 1))
 fit_do t a c m k is h =
-    let g : Fit (Do c m (part_of a)) k = subst (λ p. Fit p k) (ap part_of is ∙ part-Do c m a) h in
+    let g : FitsCaps (Do c m (part_of a)) k = subst (λ p. FitsCaps p k) (ap part_of is ∙ part-Do c m a) h in
     let p = node_caps (part_of a) (k * (m + 1)) in
-    let last : EachMost (2 ^ 40) ((k * (m + 1)) ∷ []) = right (2 ^ 40) p ((k * (m + 1)) ∷ []) g.caps in
+    let last : EachIsAtMost (2 ^ 40) ((k * (m + 1)) ∷ []) = right (2 ^ 40) p ((k * (m + 1)) ∷ []) g.caps in
     record { entries = last.0; caps = left (2 ^ 40) p ((k * (m + 1)) ∷ []) g.caps }
 
-pub fit_body : (t a : Tree) (k : ℕ) → t ≡ tree.Body a → Fit (part_of t) k → Fit (part_of a) k
+pub fit_body : (t a : Tree) (k : ℕ) → t ≡ tree.Body a → FitsCaps (part_of t) k → FitsCaps (part_of a) k
 fit_body t a k is h =
-    let g : Fit (Body (part_of a)) k = subst (λ p. Fit p k) (ap part_of is ∙ part-Body a) h in
+    let g : FitsCaps (Body (part_of a)) k = subst (λ p. FitsCaps p k) (ap part_of is ∙ part-Body a) h in
     record { entries = g.entries; caps = g.caps }
 
 -- ---- lists that are added one after the other
@@ -124,14 +124,14 @@ three_added old x y z p q r u one two three is =
 pub flows_nothing : (t : Tree) (a : Targets) → t ≡ tree.Nothing → flows (part_of t) a ≡ []
 flows_nothing t a is = ap (λ p. flows p a) (ap part_of is ∙ part-Nothing)
 
-pub flows_then : (t a b x y x' y' : Tree) (k u v : Targets) → t ≡ tree.Then a b → x ≡ a → y ≡ b → x' ≡ a → y' ≡ b → u ≡ then_first (dear (part_of x')) (dear (part_of y')) k → v ≡ then_second (dear (part_of x')) (dear (part_of y')) k → flows (part_of t) k ≡ flows (part_of x) u ++ flows (part_of y) v
+pub flows_then : (t a b x y x' y' : Tree) (k u v : Targets) → t ≡ tree.Then a b → x ≡ a → y ≡ b → x' ≡ a → y' ≡ b → u ≡ then_first (dearest_ways (part_of x')) (dearest_ways (part_of y')) k → v ≡ then_second (dearest_ways (part_of x')) (dearest_ways (part_of y')) k → flows (part_of t) k ≡ flows (part_of x) u ++ flows (part_of y) v
 flows_then t a b x y x' y' k u v is xa yb xa' yb' uk vk =
-    ap (λ p. flows p k) (ap part_of is ∙ part-Then a b) ∙ sym (λ i. flows (part_of (xa i)) ((uk ∙ (λ j. then_first (dear (part_of (xa' j))) (dear (part_of (yb' j))) k)) i) ++ flows (part_of (yb i)) ((vk ∙ (λ j. then_second (dear (part_of (xa' j))) (dear (part_of (yb' j))) k)) i))
+    ap (λ p. flows p k) (ap part_of is ∙ part-Then a b) ∙ sym (λ i. flows (part_of (xa i)) ((uk ∙ (λ j. then_first (dearest_ways (part_of (xa' j))) (dearest_ways (part_of (yb' j))) k)) i) ++ flows (part_of (yb i)) ((vk ∙ (λ j. then_second (dearest_ways (part_of (xa' j))) (dearest_ways (part_of (yb' j))) k)) i))
 
-pub flows_choice : (t a b x y x' y' : Tree) (c f s : ℕ) (k u v : Targets) → t ≡ tree.Choice c a b → x ≡ a → y ≡ b → x' ≡ a → y' ≡ b → u ≡ choice_first (dear (part_of x')) (dear (part_of y')) k → v ≡ choice_second (dear (part_of x')) (dear (part_of y')) k → f ≡ whole u → s ≡ whole v → flows (part_of t) k ≡ (f ∷ []) ++ ((s ∷ []) ++ (flows (part_of x) u ++ flows (part_of y) v))
+pub flows_choice : (t a b x y x' y' : Tree) (c f s : ℕ) (k u v : Targets) → t ≡ tree.Choice c a b → x ≡ a → y ≡ b → x' ≡ a → y' ≡ b → u ≡ choice_first (dearest_ways (part_of x')) (dearest_ways (part_of y')) k → v ≡ choice_second (dearest_ways (part_of x')) (dearest_ways (part_of y')) k → f ≡ whole u → s ≡ whole v → flows (part_of t) k ≡ (f ∷ []) ++ ((s ∷ []) ++ (flows (part_of x) u ++ flows (part_of y) v))
 flows_choice t a b x y x' y' c f s k u v is xa yb xa' yb' uk vk fu sv =
-    let first = uk ∙ (λ j. choice_first (dear (part_of (xa' j))) (dear (part_of (yb' j))) k) in
-    let second = vk ∙ (λ j. choice_second (dear (part_of (xa' j))) (dear (part_of (yb' j))) k) in
+    let first = uk ∙ (λ j. choice_first (dearest_ways (part_of (xa' j))) (dearest_ways (part_of (yb' j))) k) in
+    let second = vk ∙ (λ j. choice_second (dearest_ways (part_of (xa' j))) (dearest_ways (part_of (yb' j))) k) in
     ap (λ p. flows p k) (ap part_of is ∙ part-Choice c a b) ∙ sym (λ i. (fu ∙ ap whole first) i ∷ ((sv ∙ ap whole second) i ∷ (flows (part_of (xa i)) (first i) ++ flows (part_of (yb i)) (second i))))
 
 pub flows_while : (t a x y : Tree) (c m f g h : ℕ) (s : Option ℕ) (k u : Targets) → t ≡ tree.While c m s a → x ≡ a → y ≡ a → flows (While c m s (part_of x)) k ≡ f ∷ (g ∷ (step_flows s h ++ flows (part_of x) u)) → flows (part_of t) k ≡ (f ∷ []) ++ ((g ∷ []) ++ (step_flows s h ++ flows (part_of y) u))

@@ -4,42 +4,42 @@ use Rattle.flow_laws.specs.Sites.{Targets, with_next, body_of}
 use Rattle.flow_laws.specs.Graphs.{all_to}
 use Rattle.ipet_peak.specs.declared.tree.Tree.{Tree}
 use Rattle.ipet_peak.specs.declared.tree.Tree.TheVariants as tree
-use Rattle.peak_laws.specs.Parts.{Part, While, Do, dear, step_cost, at_condition, from_entry, step_potentials, potentials}
-use Rattle.peak_laws.specs.Hefts.{heft, reach}
-use Rattle.ipet_peak.specs.Trees.{part_of, tallest}
-use Rattle.peak_laws.proofs.Hefts.{heft_reach}
+use Rattle.peak_laws.specs.Parts.{Part, While, Do, dearest_ways, step_cost, at_condition, from_entry, step_potentials, potentials}
+use Rattle.peak_laws.specs.Magnitudes.{cap_cost, excess}
+use Rattle.ipet_peak.specs.Trees.{part_of, greatest_target}
+use Rattle.peak_laws.proofs.Magnitudes.{cap_cost_excess}
 use Rattle.ipet_peak.proofs.TreeLayers.{part-Nothing, part-Then, part-Choice, part-While, part-Do, part-Body}
 use Rattle.ipet_peak.proofs.Pushed.{entry_tallest, two_pushed}
 
-reach_of : (t : Tree) (p : Part) → part_of t ≡ p → reach (part_of t) ≡ reach p
-reach_of t p is = ap reach is
+excess_of : (t : Tree) (p : Part) → part_of t ≡ p → excess (part_of t) ≡ excess p
+excess_of t p is = ap excess is
 
-pub then_room : (t a b : Tree) (k : Targets) (x : ℕ) → t ≡ tree.Then a b → reach (part_of t) + tallest k ≤ x → (heft (part_of a) ≤ x) × (heft (part_of b) ≤ x) × ((w : ℕ) → w ≤ heft (part_of b) + tallest k → reach (part_of a) + tallest (with_next k w) ≤ x) × (reach (part_of b) + tallest k ≤ x)
+pub then_room : (t a b : Tree) (k : Targets) (x : ℕ) → t ≡ tree.Then a b → excess (part_of t) + greatest_target k ≤ x → (cap_cost (part_of a) ≤ x) × (cap_cost (part_of b) ≤ x) × ((w : ℕ) → w ≤ cap_cost (part_of b) + greatest_target k → excess (part_of a) + greatest_target (with_next k w) ≤ x) × (excess (part_of b) + greatest_target k ≤ x)
 then_room t a b k x is h =
-    let e = ap reach (ap part_of is ∙ part-Then a b) in
-    (omega (arith, e, h, heft_reach (part_of a)), omega (arith, e, h, heft_reach (part_of b)), λ w le. omega (arith, e, h, le, heft_reach (part_of b)), omega (arith, e, h))
+    let e = ap excess (ap part_of is ∙ part-Then a b) in
+    (omega (arith, e, h, cap_cost_excess (part_of a)), omega (arith, e, h, cap_cost_excess (part_of b)), λ w le. omega (arith, e, h, le, cap_cost_excess (part_of b)), omega (arith, e, h))
 
-pub choice_room : (t a b : Tree) (c : ℕ) (k : Targets) (x : ℕ) → t ≡ tree.Choice c a b → reach (part_of t) + tallest k ≤ x → (heft (part_of a) ≤ x) × (heft (part_of b) ≤ x) × (reach (part_of a) + tallest k ≤ x) × (reach (part_of b) + tallest k ≤ x) × (c + (heft (part_of a) + heft (part_of b)) + tallest k ≤ x)
+pub choice_room : (t a b : Tree) (c : ℕ) (k : Targets) (x : ℕ) → t ≡ tree.Choice c a b → excess (part_of t) + greatest_target k ≤ x → (cap_cost (part_of a) ≤ x) × (cap_cost (part_of b) ≤ x) × (excess (part_of a) + greatest_target k ≤ x) × (excess (part_of b) + greatest_target k ≤ x) × (c + (cap_cost (part_of a) + cap_cost (part_of b)) + greatest_target k ≤ x)
 choice_room t a b c k x is h =
-    let e = ap reach (ap part_of is ∙ part-Choice c a b) in
-    (omega (arith, e, h, heft_reach (part_of a)), omega (arith, e, h, heft_reach (part_of b)), omega (arith, e, h), omega (arith, e, h), omega (arith, e, h, heft_reach (part_of a), heft_reach (part_of b)))
+    let e = ap excess (ap part_of is ∙ part-Choice c a b) in
+    (omega (arith, e, h, cap_cost_excess (part_of a)), omega (arith, e, h, cap_cost_excess (part_of b)), omega (arith, e, h), omega (arith, e, h), omega (arith, e, h, cap_cost_excess (part_of a), cap_cost_excess (part_of b)))
 
-pub while_room : (t a : Tree) (c m : ℕ) (s : Option ℕ) (k : Targets) (x : ℕ) → t ≡ tree.While c m s a → reach (part_of t) + tallest k ≤ x → (let at = at_condition c s (dear (part_of a)) (from_entry (part_of a)) k in (heft (part_of a) ≤ x) × (at ≤ x) × (step_cost s + at ≤ x) × (reach (part_of a) + tallest (body_of k (step_cost s + at)) ≤ x))
+pub while_room : (t a : Tree) (c m : ℕ) (s : Option ℕ) (k : Targets) (x : ℕ) → t ≡ tree.While c m s a → excess (part_of t) + greatest_target k ≤ x → (let at = at_condition c s (dearest_ways (part_of a)) (from_entry (part_of a)) k in (cap_cost (part_of a) ≤ x) × (at ≤ x) × (step_cost s + at ≤ x) × (excess (part_of a) + greatest_target (body_of k (step_cost s + at)) ≤ x))
 while_room t a c m s k x is h =
-    let e = ap reach (ap part_of is ∙ part-While c m s a) in
+    let e = ap excess (ap part_of is ∙ part-While c m s a) in
     let low = entry_tallest (While c m s (part_of a)) k in
-    (omega (arith, e, h, heft_reach (part_of a)), omega (arith, e, h, low), omega (arith, e, h, low), omega (arith, e, h, low))
+    (omega (arith, e, h, cap_cost_excess (part_of a)), omega (arith, e, h, low), omega (arith, e, h, low), omega (arith, e, h, low))
 
-pub do_room : (t a : Tree) (c m : ℕ) (k : Targets) (x : ℕ) → t ≡ tree.Do c m a → reach (part_of t) + tallest k ≤ x → (let at = at_condition c None (dear (part_of a)) (from_entry (part_of a)) k in (heft (part_of a) ≤ x) × (at ≤ x) × (reach (part_of a) + tallest (body_of k at) ≤ x))
+pub do_room : (t a : Tree) (c m : ℕ) (k : Targets) (x : ℕ) → t ≡ tree.Do c m a → excess (part_of t) + greatest_target k ≤ x → (let at = at_condition c None (dearest_ways (part_of a)) (from_entry (part_of a)) k in (cap_cost (part_of a) ≤ x) × (at ≤ x) × (excess (part_of a) + greatest_target (body_of k at) ≤ x))
 do_room t a c m k x is h =
     let p = part_of a in
-    let e = ap reach (ap part_of is ∙ part-Do c m a) in
+    let e = ap excess (ap part_of is ∙ part-Do c m a) in
     let around = entry_tallest p (body_of k (step_cost None + (c + k.next))) in
-    let once : c + heft p ≤ heft (Do c m p) = omega arith in
-    (omega (arith, e, h, heft_reach p), omega (arith, e, h, around, once), omega (arith, e, h, around, once))
+    let once : c + cap_cost p ≤ cap_cost (Do c m p) = omega arith in
+    (omega (arith, e, h, cap_cost_excess p), omega (arith, e, h, around, once), omega (arith, e, h, around, once))
 
-pub body_room : (t a : Tree) (k : Targets) (x : ℕ) → t ≡ tree.Body a → reach (part_of t) + tallest k ≤ x → reach (part_of a) + tallest (all_to k.next) ≤ x
-body_room t a k x is h = let e = ap reach (ap part_of is ∙ part-Body a) in omega (arith, e, h)
+pub body_room : (t a : Tree) (k : Targets) (x : ℕ) → t ≡ tree.Body a → excess (part_of t) + greatest_target k ≤ x → excess (part_of a) + greatest_target (all_to k.next) ≤ x
+body_room t a k x is h = let e = ap excess (ap part_of is ∙ part-Body a) in omega (arith, e, h)
 
 -- ---- layers
 
@@ -54,11 +54,11 @@ pub pots_choice : (t a b x y : Tree) (c v : ℕ) (k : Targets) → t ≡ tree.Ch
 pots_choice t a b x y c v k is xa yb vy =
     ap (λ p. potentials p k) (ap part_of is ∙ part-Choice c a b) ∙ sym (λ i. ((vy i ∷ []) ++ potentials (part_of (xa i)) k) ++ potentials (part_of (yb i)) k)
 
-pub pots_while : (t a x : Tree) (c m v z : ℕ) (s : Option ℕ) (k u : Targets) → t ≡ tree.While c m s a → x ≡ a → v ≡ at_condition c s (dear (part_of a)) (from_entry (part_of a)) k → z ≡ step_cost s → u ≡ body_of k (z + v) → potentials (part_of t) k ≡ ((v ∷ []) ++ step_potentials s v) ++ potentials (part_of x) u
+pub pots_while : (t a x : Tree) (c m v z : ℕ) (s : Option ℕ) (k u : Targets) → t ≡ tree.While c m s a → x ≡ a → v ≡ at_condition c s (dearest_ways (part_of a)) (from_entry (part_of a)) k → z ≡ step_cost s → u ≡ body_of k (z + v) → potentials (part_of t) k ≡ ((v ∷ []) ++ step_potentials s v) ++ potentials (part_of x) u
 pots_while t a x c m v z s k u is xa vy zs uk =
     ap (λ p. potentials p k) (ap part_of is ∙ part-While c m s a) ∙ sym ((λ i. ((v ∷ []) ++ step_potentials s v) ++ potentials (part_of (xa i)) (uk i)) ∙ (λ i. ((vy i ∷ []) ++ step_potentials s (vy i)) ++ potentials (part_of a) (body_of k (zs i + vy i))))
 
-pub pots_do : (t a x : Tree) (c m v : ℕ) (k u : Targets) → t ≡ tree.Do c m a → x ≡ a → v ≡ at_condition c None (dear (part_of a)) (from_entry (part_of a)) k → u ≡ body_of k v → potentials (part_of t) k ≡ potentials (part_of x) u ++ (v ∷ [])
+pub pots_do : (t a x : Tree) (c m v : ℕ) (k u : Targets) → t ≡ tree.Do c m a → x ≡ a → v ≡ at_condition c None (dearest_ways (part_of a)) (from_entry (part_of a)) k → u ≡ body_of k v → potentials (part_of t) k ≡ potentials (part_of x) u ++ (v ∷ [])
 pots_do t a x c m v k u is xa vy uk =
     ap (λ p. potentials p k) (ap part_of is ∙ part-Do c m a) ∙ sym ((λ i. potentials (part_of (xa i)) (uk i) ++ (v ∷ [])) ∙ (λ i. potentials (part_of a) (body_of k (vy i)) ++ (vy i ∷ [])))
 

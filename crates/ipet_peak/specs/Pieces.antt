@@ -5,35 +5,37 @@ use Rattle.c_tree.specs.declared.program.Func.{Func}
 use Rattle.ipet_peak.specs.declared.pieces.Piece.{Piece}
 use Rattle.ipet_peak.specs.declared.pieces.Piece.TheVariants as piece
 use Rattle.peak_laws.specs.Parts.{Part, Nothing, Block, Choice, While, Do, Body}
-use Rattle.peak_laws.specs.ProgramParts.{joined, costs_in, parts}
+use Rattle.peak_laws.specs.ProgramParts.{sequence, costs_in, parts}
 
--- the part that was made last, and those before it
-abbrev pub last_made : List Part → Part
-last_made [] = Nothing
-last_made (p ∷ ps) = p
+-- of a stack of parts the one that was made last
+abbrev pub last_part : List Part → Part
+last_part [] = Nothing
+last_part (p ∷ ps) = p
 
-abbrev pub made_before : List Part → List Part
-made_before [] = []
-made_before (p ∷ ps) = ps
+-- and those before it
+abbrev pub earlier_parts : List Part → List Part
+earlier_parts [] = []
+earlier_parts (p ∷ ps) = ps
 
--- a piece takes the parts that were made last, and makes one of them; qs are those of the functions
-abbrev pub one_made : List Part → Piece → List Part → List Part
-one_made qs piece.Nothing ps = Nothing ∷ ps
-one_made qs (piece.Block c l) ps = Block c l ∷ ps
-one_made qs piece.Join ps = joined (last_made ps) (last_made (made_before ps)) ∷ made_before (made_before ps)
-one_made qs (piece.Choice c) ps = Choice c (last_made ps) (last_made (made_before ps)) ∷ made_before (made_before ps)
-one_made qs (piece.While c m s) ps = While c m s (last_made ps) ∷ made_before ps
-one_made qs (piece.Do c m) ps = Do c m (last_made ps) ∷ made_before ps
-one_made qs (piece.Call g) ps = Body (unwrap_or (slice_get qs g) Nothing) ∷ ps
+-- the stack after a piece, which takes the parts that were made last and makes one of them; qs are those of the
+-- functions
+abbrev pub stack_after_piece : List Part → Piece → List Part → List Part
+stack_after_piece qs piece.Nothing ps = Nothing ∷ ps
+stack_after_piece qs (piece.Block c l) ps = Block c l ∷ ps
+stack_after_piece qs piece.Join ps = sequence (last_part ps) (last_part (earlier_parts ps)) ∷ earlier_parts (earlier_parts ps)
+stack_after_piece qs (piece.Choice c) ps = Choice c (last_part ps) (last_part (earlier_parts ps)) ∷ earlier_parts (earlier_parts ps)
+stack_after_piece qs (piece.While c m s) ps = While c m s (last_part ps) ∷ earlier_parts ps
+stack_after_piece qs (piece.Do c m) ps = Do c m (last_part ps) ∷ earlier_parts ps
+stack_after_piece qs (piece.Call g) ps = Body (unwrap_or (slice_get qs g) Nothing) ∷ ps
 
--- from the last piece to the first
-abbrev pub made : List Part → List Piece → List Part → List Part
-made qs [] ps = ps
-made qs (x ∷ xs) ps = one_made qs x (made qs xs ps)
+-- the stack after all pieces, from the last to the first
+abbrev pub stack_after : List Part → List Piece → List Part → List Part
+stack_after qs [] ps = ps
+stack_after qs (x ∷ xs) ps = stack_after_piece qs x (stack_after qs xs ps)
 
 -- the pieces that are new make this part
 abbrev pub Adds : List Part → List Piece → List Piece → Part → Type 0
-Adds qs old new p = (ps : List Part) → made qs new ps ≡ made qs old (p ∷ ps)
+Adds qs old new p = (ps : List Part) → stack_after qs new ps ≡ stack_after qs old (p ∷ ps)
 
 -- the parts of these functions, and the costs of the blocks of the one after them
 abbrev pub parts_above : Costs → List Func → List Part

@@ -3,10 +3,10 @@ use Rattle.std.specs.Prelude.{ℕ, ◌≤◌, ◌+◌, ◌^◌, max, List, [], �
 use Rattle.ipet_peak.specs.declared.tree.Tree.{Tree, Row_of-Tree, end_of-Tree, more_of-Tree}
 use Rattle.ipet_peak.specs.declared.tree.Tree.TheVariants as tree
 use Rattle.flow_laws.specs.Sites.{Targets}
-use Rattle.ipet_peak.specs.declared.ahead.Beyond.{Beyond}
+use Rattle.ipet_peak.specs.declared.ahead.CostsAhead.{CostsAhead}
 use Rattle.ipet_peak.specs.declared.flows.Amounts.{Amounts}
-use Rattle.peak_laws.specs.Hefts.{node_caps, EachMost}
-use Rattle.peak_laws.specs.Parts.{Part, Nothing, Block, Then, Choice, While, Do, Body, dear, turn}
+use Rattle.peak_laws.specs.Magnitudes.{node_caps, EachIsAtMost}
+use Rattle.peak_laws.specs.Parts.{Part, Nothing, Block, Then, Choice, While, Do, Body, dearest_ways, turn}
 use Rattle.peak_laws.specs.declared.ways.Ways.{Ways}
 
 unfoldable mutual
@@ -29,25 +29,29 @@ turns_of Nothing = []
 turns_of (Block c l) = []
 turns_of (Then p q) = turns_of p ++ turns_of q
 turns_of (Choice c p q) = turns_of p ++ turns_of q
-turns_of (While c m s p) = turn c s (dear p) ∷ turns_of p
-turns_of (Do c m p) = turns_of p ++ (turn c None (dear p) ∷ [])
+turns_of (While c m s p) = turn c s (dearest_ways p) ∷ turns_of p
+turns_of (Do c m p) = turns_of p ++ (turn c None (dearest_ways p) ∷ [])
 turns_of (Body p) = turns_of p
 
 -- ---- from ways to what lies ahead
 
-abbrev pub reached : Option ℕ → ℕ → ℕ
-reached None t = 0
-reached (Some d) t = d + t
+-- what a way and what is ahead of it cost, or 0 where there is no way
+abbrev pub cost_by_way : Option ℕ → ℕ → ℕ
+cost_by_way None t = 0
+cost_by_way (Some d) t = d + t
 
 -- the dearest of the ways with what is ahead of each
-abbrev pub best : Ways → Targets → ℕ
-best w t = max (max (reached w.next t.next) (reached w.breaks t.breaks)) (max (reached w.continues t.continues) (reached w.returns t.returns))
+abbrev pub dearest_cost : Ways → Targets → ℕ
+dearest_cost w t =
+    max (max (cost_by_way w.next t.next) (cost_by_way w.breaks t.breaks))
+    (max (cost_by_way w.continues t.continues) (cost_by_way w.returns t.returns))
 
-abbrev pub targets : Beyond → Targets
+abbrev pub targets : CostsAhead → Targets
 targets t = record { next = t.next; breaks = t.breaks; continues = t.continues; returns = t.returns }
 
-abbrev pub tallest : Targets → ℕ
-tallest t = max (max t.next t.breaks) (max t.continues t.returns)
+-- the greatest of the four
+abbrev pub greatest_target : Targets → ℕ
+greatest_target t = max (max t.next t.breaks) (max t.continues t.returns)
 
 -- ---- counts
 
@@ -55,15 +59,16 @@ abbrev pub amounts : Amounts → Targets
 amounts a = record { next = a.next; breaks = a.breaks; continues = a.continues; returns = a.returns }
 
 -- a part that is entered k times, no node of which can be reached more than 2^40 times
-pub record Fit (p : Part) (k : ℕ) : Type 0 where
+pub record FitsCaps (p : Part) (k : ℕ) : Type 0 where
   pub entries : k ≤ 2 ^ 40
-  pub caps : EachMost (2 ^ 40) (node_caps p k)
+  pub caps : EachIsAtMost (2 ^ 40) (node_caps p k)
 
 -- ---- trees that were made one after the other, from the last one
 
-abbrev pub onto : List Tree → List Part → List Part
-onto [] ps = ps
-onto (t ∷ ts) ps = onto ts (part_of t ∷ ps)
+-- the stack of parts that these trees are, on top of these parts
+abbrev pub stack_onto : List Tree → List Part → List Part
+stack_onto [] ps = ps
+stack_onto (t ∷ ts) ps = stack_onto ts (part_of t ∷ ps)
 
 abbrev pub parts_of : List Tree → List Part
-parts_of ts = onto ts []
+parts_of ts = stack_onto ts []

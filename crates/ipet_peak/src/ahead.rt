@@ -4,21 +4,21 @@ ghost use Rattle.std.specs.Prelude.{◌≡◌, ◌≤◌, ◌+◌, ◌^◌, max}
 ghost use Rattle.flow_laws.specs.Sites as sites;
 ghost use Rattle.flow_laws.specs.Graphs as graphs;
 ghost use Rattle.peak_laws.specs.Parts as spec;
-ghost use Rattle.peak_laws.specs.Hefts.{Most, AllMost};
-ghost use Rattle.ipet_peak.specs.Trees.{reached, best, targets, tallest};
+ghost use Rattle.peak_laws.specs.Magnitudes.{WayIsAtMost, WaysAreAtMost};
+ghost use Rattle.ipet_peak.specs.Trees.{cost_by_way, dearest_cost, targets, greatest_target};
 
 use peak_laws::{Leaving, Ways};
 
 /// What lies ahead costs, for each of the four ways out of a part.
 #[derive(Clone, Copy, Debug)]
-pub(crate) struct Beyond {
+pub(crate) struct CostsAhead {
     pub next: u128,
     pub breaks: u128,
     pub continues: u128,
     pub returns: u128,
 }
 
-pub(crate) fn ahead(t: Beyond, leaving: Leaving) -> u128
+pub(crate) fn ahead(t: CostsAhead, leaving: Leaving) -> u128
     ensures { result ≡ spec.ahead (targets t) leaving }
 {
     match leaving {
@@ -29,17 +29,17 @@ pub(crate) fn ahead(t: Beyond, leaving: Leaving) -> u128
     }
 }
 
-pub(crate) fn with_next(t: Beyond, next: u128) -> Beyond
+pub(crate) fn with_next(t: CostsAhead, next: u128) -> CostsAhead
     ensures { targets result ≡ sites.with_next (targets t) next }
 {
-    Beyond { next, ..t }
+    CostsAhead { next, ..t }
 }
 
 /// Of a loop's body, whose ends lead back to what costs `back`.
-pub(crate) fn body_of(t: Beyond, back: u128) -> Beyond
+pub(crate) fn body_of(t: CostsAhead, back: u128) -> CostsAhead
     ensures { targets result ≡ sites.body_of (targets t) back }
 {
-    Beyond {
+    CostsAhead {
         next: back,
         breaks: t.next,
         continues: back,
@@ -48,10 +48,10 @@ pub(crate) fn body_of(t: Beyond, back: u128) -> Beyond
 }
 
 /// Of a callee's body.
-pub(crate) fn all_to(next: u128) -> Beyond
+pub(crate) fn all_to(next: u128) -> CostsAhead
     ensures { targets result ≡ graphs.all_to next }
 {
-    Beyond {
+    CostsAhead {
         next,
         breaks: next,
         continues: next,
@@ -65,10 +65,10 @@ pub(crate) fn larger(a: u128, b: u128) -> u128
     if a < b { b } else { a }
 }
 
-fn reached(o: Option<u128>, t: u128) -> u128
-    requires o { Most o (2 ^ 126) }
+fn cost_by_way(o: Option<u128>, t: u128) -> u128
+    requires o { WayIsAtMost o (2 ^ 126) }
     requires t { t ≤ 2 ^ 126 }
-    ensures { result ≡ reached o t }
+    ensures { result ≡ cost_by_way o t }
 {
     match o {
         None => 0,
@@ -77,16 +77,16 @@ fn reached(o: Option<u128>, t: u128) -> u128
 }
 
 /// The dearest of the ways with what is ahead of each.
-pub(crate) fn best(w: Ways, t: Beyond) -> u128
-    requires w { AllMost w (2 ^ 126) }
-    requires t { tallest (targets t) ≤ 2 ^ 126 }
-    ensures { result ≡ best w (targets t) }
+pub(crate) fn dearest_cost(w: Ways, t: CostsAhead) -> u128
+    requires w { WaysAreAtMost w (2 ^ 126) }
+    requires t { greatest_target (targets t) ≤ 2 ^ 126 }
+    ensures { result ≡ dearest_cost w (targets t) }
 {
     larger(
-        larger(reached(w.next, t.next), reached(w.breaks, t.breaks)),
+        larger(cost_by_way(w.next, t.next), cost_by_way(w.breaks, t.breaks)),
         larger(
-            reached(w.continues, t.continues),
-            reached(w.returns, t.returns),
+            cost_by_way(w.continues, t.continues),
+            cost_by_way(w.returns, t.returns),
         ),
     )
 }

@@ -2,8 +2,8 @@
 
 ghost use Rattle.std.specs.Prelude.{◌≡◌, ◌≤◌, ◌^◌, pos, IfOk};
 ghost use Rattle.peak_laws.specs.Answers.{peak_value, peak_counts, peak_multipliers};
-ghost use Rattle.peak_laws.specs.Hefts.{heft, reach};
-ghost use Rattle.ipet_peak.specs.Trees.{part_of, Fit};
+ghost use Rattle.peak_laws.specs.Magnitudes.{cap_cost, excess};
+ghost use Rattle.ipet_peak.specs.Trees.{part_of, FitsCaps};
 ghost use Rattle.peak_laws.specs.Peaks.{IsPeakOf};
 
 use crate::ahead::all_to;
@@ -28,11 +28,11 @@ const ONCE: Amounts = Amounts {
     returns: 0,
 };
 
-/// The peak of a part that is entered once.
+/// The value, the counts and the multipliers of a part that is entered once.
 pub(crate) fn peak_of_tree(alloc: Global, tree: &Tree) -> Result<Peak, NoMemory>
-    requires light { heft (part_of tree.now) ≤ 2 ^ 124 }
-    requires room { reach (part_of tree.now) ≤ 2 ^ 124 }
-    requires fit { Fit (part_of tree.now) 1 }
+    requires light { cap_cost (part_of tree.now) ≤ 2 ^ 124 }
+    requires room { excess (part_of tree.now) ≤ 2 ^ 124 }
+    requires fit { FitsCaps (part_of tree.now) 1 }
     ensures value { IfOk result (λ p. p.value ≡ peak_value (part_of tree.now)) }
     ensures counts { IfOk result (λ p. p.counts ≡ peak_counts (part_of tree.now)) }
     ensures divisor { IfOk result (λ p. p.by.d ≡ pos 1) }
@@ -50,12 +50,17 @@ pub(crate) fn peak_of_tree(alloc: Global, tree: &Tree) -> Result<Peak, NoMemory>
     Ok(Peak { counts, value, by })
 }
 
-/// The greatest cost of counts that meet the rows of the plan, counts that cost it, and multipliers that certify it. It fails for want of
-/// memory alone. Its time grows with the edges times the nesting.
+/// The peak of a plan (Li and Malik): the greatest cost of whole counts that meet the plan's own rows, in the unit of
+/// the cost table; counts that meet them and cost it; and multipliers whose dual value over the box from 0 to the caps
+/// is the same number. No rows that were added to the plan's are looked at.
+///
+/// It is refused for want of memory alone. Counts come by multiplication: no loop is walked through. Its time grows
+/// with the edges times the height of the tree of parts, in which a list of statements is as high as it is long, and
+/// with the text of each callee times the calls of it.
 pub fn peak(alloc: Global, plan: &Plan) -> Result<Peak, NoMemory>
     ensures { IfOk result (λ peak. IsPeakOf plan.now peak) }
 {
-    // No run is asked for: what is learnt is that the costs leave room.
+    // Its number is not used: its clauses say that the costs leave room for what follows.
     let _bound = caps_bound(plan);
     let tree = program_tree(alloc, plan.program(), plan.costs())?;
     peak_of_tree(alloc, &tree)

@@ -3,10 +3,10 @@
 ghost use Rattle.std.specs.Prelude.{◌≡◌, ◌≤◌, ◌<◌, ◌+◌, ◌*◌, ◌^◌, ◌++◌, ◌∷◌, [], IfOk};
 ghost use Rattle.peak_laws.specs.Parts as spec;
 ghost use Rattle.peak_laws.specs.Flows as counts;
-ghost use Rattle.peak_laws.specs.Hefts.{heft, AllMost, node_caps};
-ghost use Rattle.ipet_peak.specs.Trees.{part_of, amounts, Fit};
+ghost use Rattle.peak_laws.specs.Magnitudes.{cap_cost, WaysAreAtMost, node_caps};
+ghost use Rattle.ipet_peak.specs.Trees.{part_of, amounts, FitsCaps};
 
-use crate::tree::{Tree, dear, step_cost};
+use crate::tree::{Tree, dearest_ways, step_cost};
 use crate::ways::{back, both, greater, more, turn_cost};
 use c_tree::NoMemory;
 use peak_laws::{Leaving, Ways};
@@ -62,8 +62,8 @@ fn by_second(o: Option<u128>, p: Option<u128>, x: u64) -> u64
     if is_dearer(o, p) { 0 } else { x }
 }
 
-fn made(o: Option<u128>, x: u64) -> u64
-    ensures { result ≡ counts.made o x }
+fn amount_by_way(o: Option<u128>, x: u64) -> u64
+    ensures { result ≡ counts.amount_by_way o x }
 {
     match o {
         None => 0,
@@ -90,8 +90,8 @@ fn leaving(a: Amounts, leaving: Leaving) -> u64
 }
 
 fn then_second(v: Ways, w: Ways, a: Amounts) -> Amounts
-    requires v { AllMost v (2 ^ 126) }
-    requires w { AllMost w (2 ^ 126) }
+    requires v { WaysAreAtMost v (2 ^ 126) }
+    requires w { WaysAreAtMost w (2 ^ 126) }
     ensures { amounts result ≡ counts.then_second v w (amounts a) }
 {
     Amounts {
@@ -103,8 +103,8 @@ fn then_second(v: Ways, w: Ways, a: Amounts) -> Amounts
 }
 
 fn then_first(v: Ways, w: Ways, next: u64, a: Amounts) -> Amounts
-    requires v { AllMost v (2 ^ 126) }
-    requires w { AllMost w (2 ^ 126) }
+    requires v { WaysAreAtMost v (2 ^ 126) }
+    requires w { WaysAreAtMost w (2 ^ 126) }
     requires next { next ≡ counts.whole (counts.then_second v w (amounts a)) }
     ensures { amounts result ≡ counts.then_first v w (amounts a) }
 {
@@ -118,14 +118,14 @@ fn then_first(v: Ways, w: Ways, next: u64, a: Amounts) -> Amounts
 
 // Of two parts, one after the other.
 fn then_shares(a: &Tree, b: &Tree, left: Amounts) -> Shares
-    requires first { heft (part_of a.now) ≤ 2 ^ 125 }
-    requires second { heft (part_of b.now) ≤ 2 ^ 125 }
+    requires first { cap_cost (part_of a.now) ≤ 2 ^ 125 }
+    requires second { cap_cost (part_of b.now) ≤ 2 ^ 125 }
     requires left { counts.whole (amounts left) ≤ 2 ^ 40 }
-    ensures first { amounts result.first ≡ counts.then_first (spec.dear (part_of a.now)) (spec.dear (part_of b.now)) (amounts left) }
-    ensures second { amounts result.second ≡ counts.then_second (spec.dear (part_of a.now)) (spec.dear (part_of b.now)) (amounts left) }
+    ensures first { amounts result.first ≡ counts.then_first (spec.dearest_ways (part_of a.now)) (spec.dearest_ways (part_of b.now)) (amounts left) }
+    ensures second { amounts result.second ≡ counts.then_second (spec.dearest_ways (part_of a.now)) (spec.dearest_ways (part_of b.now)) (amounts left) }
 {
-    let v = dear(a);
-    let w = dear(b);
+    let v = dearest_ways(a);
+    let w = dearest_ways(b);
     let second = then_second(v, w, left);
     let first = then_first(v, w, whole(second), left);
     Shares { first, second }
@@ -155,13 +155,13 @@ fn choice_second(v: Ways, w: Ways, a: Amounts) -> Amounts
 
 // Of a choice.
 fn choice_shares(a: &Tree, b: &Tree, left: Amounts) -> Shares
-    requires first { heft (part_of a.now) ≤ 2 ^ 125 }
-    requires second { heft (part_of b.now) ≤ 2 ^ 125 }
-    ensures first { amounts result.first ≡ counts.choice_first (spec.dear (part_of a.now)) (spec.dear (part_of b.now)) (amounts left) }
-    ensures second { amounts result.second ≡ counts.choice_second (spec.dear (part_of a.now)) (spec.dear (part_of b.now)) (amounts left) }
+    requires first { cap_cost (part_of a.now) ≤ 2 ^ 125 }
+    requires second { cap_cost (part_of b.now) ≤ 2 ^ 125 }
+    ensures first { amounts result.first ≡ counts.choice_first (spec.dearest_ways (part_of a.now)) (spec.dearest_ways (part_of b.now)) (amounts left) }
+    ensures second { amounts result.second ≡ counts.choice_second (spec.dearest_ways (part_of a.now)) (spec.dearest_ways (part_of b.now)) (amounts left) }
 {
-    let v = dear(a);
-    let w = dear(b);
+    let v = dearest_ways(a);
+    let w = dearest_ways(b);
     Shares {
         first: choice_first(v, w, left),
         second: choice_second(v, w, left),
@@ -169,8 +169,8 @@ fn choice_shares(a: &Tree, b: &Tree, left: Amounts) -> Shares
 }
 
 // How a loop's body is left that leads back `full` times.
-fn inner(w: Ways, full: u64, out: u64, r: u64) -> Amounts
-    ensures { amounts result ≡ counts.inner w full out r }
+fn loop_body_amounts(w: Ways, full: u64, out: u64, r: u64) -> Amounts
+    ensures { amounts result ≡ counts.loop_body_amounts w full out r }
 {
     Amounts {
         next: by_first(w.next, w.continues, full),
@@ -182,12 +182,13 @@ fn inner(w: Ways, full: u64, out: u64, r: u64) -> Amounts
 
 // Of `while` and `for` with a bound of `m + 1`.
 fn while_turns(c: u64, m: u32, step: Option<u64>, body: &Tree, a: Amounts) -> Turns
-    requires light { heft (spec.While c m step (part_of body.now)) ≤ 2 ^ 125 }
+    requires light { cap_cost (spec.While c m step (part_of body.now)) ≤ 2 ^ 125 }
     requires fits { counts.whole (amounts a) * (m + 1) ≤ 2 ^ 40 }
-    ensures counts { counts.flows (spec.While c m step (part_of body.now)) (amounts a) ≡ result.on ∷ (result.out ∷ (counts.step_flows step result.full ++ counts.flows (part_of body.now) (amounts result.body))) }
+    ensures counts { counts.flows (spec.While c m step (part_of body.now)) (amounts a)
+        ≡ result.on ∷ (result.out ∷ (counts.step_flows step result.full ++ counts.flows (part_of body.now) (amounts result.body))) }
     ensures fits { counts.whole (amounts result.body) ≤ counts.whole (amounts a) * (m + 1) }
 {
-    let w = dear(body);
+    let w = dearest_ways(body);
     let cost = u128::from(c);
     let y = turn_cost(cost + step_cost(step), w);
     let all = Some((u128::from(m) + 1) * y + cost);
@@ -196,35 +197,36 @@ fn while_turns(c: u64, m: u32, step: Option<u64>, body: &Tree, a: Amounts) -> Tu
     let breaks = by_second(all, but_one, a.next);
     let left = breaks + a.returns;
     let m = u64::from(m);
-    let full = made(back(w), (m + 1) * stays + m * left);
+    let full = amount_by_way(back(w), (m + 1) * stays + m * left);
     Turns {
         on: full + left,
         out: stays,
         full,
-        body: inner(w, full, breaks, a.returns),
+        body: loop_body_amounts(w, full, breaks, a.returns),
     }
 }
 
 // Of `do`.
 fn do_turns(c: u64, m: u32, body: &Tree, a: Amounts) -> Turns
-    requires light { heft (spec.Do c m (part_of body.now)) ≤ 2 ^ 125 }
+    requires light { cap_cost (spec.Do c m (part_of body.now)) ≤ 2 ^ 125 }
     requires fits { counts.whole (amounts a) * (m + 1) ≤ 2 ^ 40 }
-    ensures counts { counts.flows (spec.Do c m (part_of body.now)) (amounts a) ≡ counts.flows (part_of body.now) (amounts result.body) ++ (result.on ∷ (result.out ∷ [])) }
+    ensures counts { counts.flows (spec.Do c m (part_of body.now)) (amounts a)
+        ≡ counts.flows (part_of body.now) (amounts result.body) ++ (result.on ∷ (result.out ∷ [])) }
     ensures fits { counts.whole (amounts result.body) ≤ counts.whole (amounts a) * (m + 1) }
 {
-    let w = dear(body);
+    let w = dearest_ways(body);
     let cost = u128::from(c);
     let y = turn_cost(cost, w);
     let all = more(u128::from(m) * y + cost, back(w));
     let but_one = more(u128::from(m) * y, w.breaks);
     let stays = by_first(all, but_one, a.next);
     let breaks = by_second(all, but_one, a.next);
-    let full = made(back(w), u64::from(m) * (stays + (breaks + a.returns)));
+    let full = amount_by_way(back(w), u64::from(m) * (stays + (breaks + a.returns)));
     Turns {
         on: full,
         out: stays,
         full,
-        body: inner(w, full + stays, breaks, a.returns),
+        body: loop_body_amounts(w, full + stays, breaks, a.returns),
     }
 }
 
@@ -256,8 +258,8 @@ fn push_step(step: Option<u64>, full: u64, out: &mut Items<u64>) -> Result<(), N
 /// Adds the counts of the edges, by their sources, of a part that is left so often.
 #[tactic(auto, using(crate::proofs::TreeLayers::tree_layers))]
 pub(crate) fn push_flows(tree: &Tree, a: Amounts, out: &mut Items<u64>) -> Result<(), NoMemory>
-    requires light { heft (part_of tree.now) ≤ 2 ^ 125 }
-    requires fit { Fit (part_of tree.now) (counts.whole (amounts a)) }
+    requires light { cap_cost (part_of tree.now) ≤ 2 ^ 125 }
+    requires fit { FitsCaps (part_of tree.now) (counts.whole (amounts a)) }
     ensures { IfOk result (λ u. out.new ≡ out.old ++ counts.flows (part_of tree.now) (amounts a)) }
 {
     match tree {
@@ -296,7 +298,11 @@ pub(crate) fn push_flows(tree: &Tree, a: Amounts, out: &mut Items<u64>) -> Resul
             Ok(())
         }
         Tree::Body(body) => {
-            push_flows(body.get(), body_amounts(dear(body.get()), a.next), out)?;
+            push_flows(
+                body.get(),
+                body_amounts(dearest_ways(body.get()), a.next),
+                out,
+            )?;
             Ok(())
         }
     }

@@ -3,7 +3,7 @@
 ghost use Rattle.std.specs.Prelude.{◌≡◌, ◌<◌, ◌^◌, ◌∷◌, [], List, Some, length, slice_get, unwrap_or, IfOk};
 ghost use Rattle.peak_laws.specs.Parts as spec;
 ghost use Rattle.peak_laws.specs.ProgramParts as spec_program;
-ghost use Rattle.ipet_peak.specs.Pieces.{last_made, made_before, one_made, parts_above};
+ghost use Rattle.ipet_peak.specs.Pieces.{last_part, earlier_parts, stack_after_piece, parts_above};
 ghost use Rattle.ipet_peak.specs.Trees.{part_of, parts_of};
 
 use crate::pieces::{Piece, Scope, list_pieces};
@@ -29,8 +29,8 @@ fn is_nothing(tree: &Tree) -> bool
 
 // Two trees, one after the other.
 #[tactic(auto, using(crate::proofs::TreeLayers::tree_layers))]
-fn joined(alloc: Global, a: Tree, b: Tree) -> Result<Tree, NoMemory>
-    ensures { IfOk result (λ t. part_of t ≡ spec_program.joined (part_of a) (part_of b)) }
+fn sequence(alloc: Global, a: Tree, b: Tree) -> Result<Tree, NoMemory>
+    ensures { IfOk result (λ t. part_of t ≡ spec_program.sequence (part_of a) (part_of b)) }
 {
     if is_nothing(&a) {
         return Ok(b);
@@ -44,8 +44,8 @@ fn joined(alloc: Global, a: Tree, b: Tree) -> Result<Tree, NoMemory>
 // The tree that was made last.
 #[tactic(auto, using(crate::proofs::TreeLayers::tree_layers))]
 fn take_last(trees: &mut Items<Tree>) -> Tree
-    ensures last { part_of result ≡ last_made (parts_of trees.old) }
-    ensures before { parts_of trees.new ≡ made_before (parts_of trees.old) }
+    ensures last { part_of result ≡ last_part (parts_of trees.old) }
+    ensures before { parts_of trees.new ≡ earlier_parts (parts_of trees.old) }
 {
     match trees.pop() {
         None => Tree::Nothing,
@@ -75,7 +75,7 @@ fn make(
     piece: Piece,
     trees: &mut Items<Tree>,
 ) -> Result<Tree, NoMemory>
-    ensures { IfOk result (λ t. part_of t ∷ parts_of trees.new ≡ one_made (parts_above costs.now funcs.now) piece (parts_of trees.old)) }
+    ensures { IfOk result (λ t. part_of t ∷ parts_of trees.new ≡ stack_after_piece (parts_above costs.now funcs.now) piece (parts_of trees.old)) }
 {
     match piece {
         Piece::Nothing => Ok(Tree::Nothing),
@@ -83,7 +83,7 @@ fn make(
         Piece::Join => {
             let first = take_last(trees);
             let second = take_last(trees);
-            joined(alloc, first, second)
+            sequence(alloc, first, second)
         }
         Piece::Choice(c) => {
             let first = Boxed::new(alloc, take_last(trees))?;

@@ -1,5 +1,5 @@
-//! The greatest cost of counts that meet the rows of a plan (the optimum of implicit path enumeration, Li and Malik), with counts that
-//! attain it and multipliers that bound it.
+//! The greatest cost of counts that meet the rows of a plan (the optimum of implicit path enumeration, Li and Malik),
+//! with counts that attain it and multipliers that bound it.
 #![tactic(auto)]
 
 mod ahead;

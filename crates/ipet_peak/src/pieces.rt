@@ -1,12 +1,12 @@
-//! The pieces of a function's part, in an order in which the part is made without a stack of calls: a piece before those of the
-//! parts that it holds.
+//! The pieces of a function's part, in an order in which the part is made without a stack of calls: a piece before
+//! those of the parts that it holds.
 
 ghost use Rattle.std.specs.Prelude.{◌≡◌, ◌<◌, ◌+◌, ◌^◌, ◌∷◌, [], List, length, slice_get, IfOk, false, true};
 ghost use Rattle.c_tree.specs.Blocks.{is_simple, blocks, list_blocks};
 ghost use Rattle.c_tree.specs.Statements.{held};
 ghost use Rattle.peak_laws.specs.Parts as spec;
 ghost use Rattle.peak_laws.specs.ProgramParts as program;
-ghost use Rattle.ipet_peak.specs.Pieces.{one_made, made, Adds, parts_above, costs_after};
+ghost use Rattle.ipet_peak.specs.Pieces.{stack_after_piece, stack_after, Adds, parts_above, costs_after};
 
 use c_semantics::is_simple;
 use c_tree::{Costs, Func, NoMemory, Stmt};
@@ -15,8 +15,9 @@ use sqlite_items::{Boxed, Items};
 use std::alloc::Global;
 use std::slice;
 
-/// A piece of a part: nothing; a node with one end; two parts, one after the other; a condition of two parts; a loop with its
-/// condition, its step and its body; or a callee's body. Each node has its cost, and a loop its bound less one.
+/// A piece of a part: nothing; a node with one end; two parts, one after the other; a condition of two parts; a loop
+/// with its condition, its step and its body; or a callee's body. Each node has its cost, and a loop its bound less
+/// one.
 #[derive(Clone, Copy, Debug, Drop)]
 pub(crate) enum Piece {
     Nothing,
@@ -52,7 +53,8 @@ fn cost_of(scope: Scope, block: usize) -> u64
 }
 
 fn put(piece: Piece, out: &mut Items<Piece>) -> Result<(), NoMemory>
-    ensures { IfOk result (λ u. (qs ps : List spec.Part) → made qs out.new ps ≡ made qs out.old (one_made qs piece ps)) }
+    ensures { IfOk result (λ u. (qs ps : List spec.Part)
+        → stack_after qs out.new ps ≡ stack_after qs out.old (stack_after_piece qs piece ps)) }
 {
     out.push(piece)?;
     Ok(())
@@ -65,8 +67,9 @@ fn put_pending(
     at: usize,
     out: &mut Items<Piece>,
 ) -> Result<usize, NoMemory>
-    ensures block { IfOk result (λ b. b ≡ program.past_run run at) }
-    ensures pieces { IfOk result (λ b. (qs : List spec.Part) → Adds qs out.old out.new (program.pending run (costs_after scope.entry.costs.now scope.entry.funcs.now at))) }
+    ensures block { IfOk result (λ b. b ≡ program.block_past_run run at) }
+    ensures pieces { IfOk result (λ b. (qs : List spec.Part)
+        → Adds qs out.old out.new (program.pending_block run (costs_after scope.entry.costs.now scope.entry.funcs.now at))) }
 {
     if run {
         put(Piece::Block(cost_of(scope, at), Leaving::ByEnd), out)?;
@@ -85,7 +88,8 @@ fn put_block(
     out: &mut Items<Piece>,
 ) -> Result<usize, NoMemory>
     ensures block { IfOk result (λ b. b ≡ at + 1) }
-    ensures pieces { IfOk result (λ b. (qs : List spec.Part) → Adds qs out.old out.new (spec.Block (costs_after scope.entry.costs.now scope.entry.funcs.now at) leaving)) }
+    ensures pieces { IfOk result (λ b. (qs : List spec.Part)
+        → Adds qs out.old out.new (spec.Block (costs_after scope.entry.costs.now scope.entry.funcs.now at) leaving)) }
 {
     put(Piece::Block(cost_of(scope, at), leaving), out)?;
     plus(at, 1)
@@ -94,7 +98,8 @@ fn put_block(
 // A call's node, its callee's body and its landing.
 fn put_call(scope: Scope, callee: u32, at: usize, out: &mut Items<Piece>) -> Result<usize, NoMemory>
     ensures block { IfOk result (λ b. b ≡ at + 1) }
-    ensures pieces { IfOk result (λ b. Adds (parts_above scope.entry.costs.now scope.entry.funcs.now) out.old out.new (program.call_part (slice_get (parts_above scope.entry.costs.now scope.entry.funcs.now) callee) (costs_after scope.entry.costs.now scope.entry.funcs.now at))) }
+    ensures pieces { IfOk result (λ b. Adds (parts_above scope.entry.costs.now scope.entry.funcs.now) out.old out.new
+        (program.call_part (slice_get (parts_above scope.entry.costs.now scope.entry.funcs.now) callee) (costs_after scope.entry.costs.now scope.entry.funcs.now at))) }
 {
     put(Piece::Join, out)?;
     let block = put_block(scope, at, Leaving::ByEnd, out)?;
@@ -140,7 +145,8 @@ pub(crate) fn list_pieces(
     out: &mut Items<Piece>,
 ) -> Result<usize, NoMemory>
     ensures block { IfOk result (λ b. b ≡ at + list_blocks list.now false) }
-    ensures pieces { IfOk result (λ b. Adds (parts_above scope.entry.costs.now scope.entry.funcs.now) out.old out.new (program.list_part (parts_above scope.entry.costs.now scope.entry.funcs.now) (costs_after scope.entry.costs.now scope.entry.funcs.now) list.now at false)) }
+    ensures pieces { IfOk result (λ b. Adds (parts_above scope.entry.costs.now scope.entry.funcs.now) out.old out.new
+        (program.list_part (parts_above scope.entry.costs.now scope.entry.funcs.now) (costs_after scope.entry.costs.now scope.entry.funcs.now) list.now at false)) }
 {
     let mut block = at;
     let mut run = false;
@@ -167,7 +173,8 @@ fn held_pieces(
     out: &mut Items<Piece>,
 ) -> Result<usize, NoMemory>
     ensures block { IfOk result (λ b. b ≡ at + list_blocks (held part.now) false) }
-    ensures pieces { IfOk result (λ b. Adds (parts_above scope.entry.costs.now scope.entry.funcs.now) out.old out.new (program.list_part (parts_above scope.entry.costs.now scope.entry.funcs.now) (costs_after scope.entry.costs.now scope.entry.funcs.now) (held part.now) at false)) }
+    ensures pieces { IfOk result (λ b. Adds (parts_above scope.entry.costs.now scope.entry.funcs.now) out.old out.new
+        (program.list_part (parts_above scope.entry.costs.now scope.entry.funcs.now) (costs_after scope.entry.costs.now scope.entry.funcs.now) (held part.now) at false)) }
 {
     match part {
         None => {
@@ -196,7 +203,8 @@ fn stmt_pieces(
 ) -> Result<usize, NoMemory>
     requires { is_simple stmt.now ≡ false }
     ensures block { IfOk result (λ b. b ≡ at + blocks stmt.now false) }
-    ensures pieces { IfOk result (λ b. Adds (parts_above scope.entry.costs.now scope.entry.funcs.now) out.old out.new (program.part (parts_above scope.entry.costs.now scope.entry.funcs.now) (costs_after scope.entry.costs.now scope.entry.funcs.now) stmt.now at)) }
+    ensures pieces { IfOk result (λ b. Adds (parts_above scope.entry.costs.now scope.entry.funcs.now) out.old out.new
+        (program.part (parts_above scope.entry.costs.now scope.entry.funcs.now) (costs_after scope.entry.costs.now scope.entry.funcs.now) stmt.now at)) }
 {
     match stmt {
         Stmt::Group(list) => list_pieces(scope, list.as_slice(), at, out),

@@ -3,34 +3,35 @@
 ghost use Rattle.std.specs.Prelude.{◌≡◌, ◌≤◌, ◌<◌, ◌+◌, ◌^◌, ◌++◌, ◌∷◌, [], pos, map, IfOk};
 ghost use Rattle.flow_laws.specs.Sites as sites;
 ghost use Rattle.peak_laws.specs.Parts as spec;
-ghost use Rattle.peak_laws.specs.Hefts.{heft, reach};
-ghost use Rattle.ipet_peak.specs.Trees.{part_of, targets, tallest};
+ghost use Rattle.peak_laws.specs.Magnitudes.{cap_cost, excess};
+ghost use Rattle.ipet_peak.specs.Trees.{part_of, targets, greatest_target};
 
-use crate::ahead::{Beyond, ahead, all_to, best, body_of, larger, with_next};
-use crate::tree::{Tree, dear, step_cost};
+use crate::ahead::{CostsAhead, ahead, all_to, body_of, dearest_cost, larger, with_next};
+use crate::tree::{Tree, dearest_ways, step_cost};
 use crate::ways::turn_cost;
 use c_tree::NoMemory;
 use sqlite_items::Items;
 
 /// What a part costs from its entry on.
-pub(crate) fn from_entry(tree: &Tree, t: Beyond) -> u128
-    requires tree { heft (part_of tree.now) ≤ 2 ^ 126 }
-    requires t { tallest (targets t) ≤ 2 ^ 126 }
+pub(crate) fn from_entry(tree: &Tree, t: CostsAhead) -> u128
+    requires tree { cap_cost (part_of tree.now) ≤ 2 ^ 126 }
+    requires t { greatest_target (targets t) ≤ 2 ^ 126 }
     ensures value { result ≡ spec.from_entry (part_of tree.now) (targets t) }
-    ensures most { result ≤ heft (part_of tree.now) + tallest (targets t) }
+    ensures most { result ≤ cap_cost (part_of tree.now) + greatest_target (targets t) }
 {
-    best(dear(tree), t)
+    dearest_cost(dearest_ways(tree), t)
 }
 
 /// What a loop with this body costs from its condition on.
-pub(crate) fn from_condition(c: u128, step: u128, body: &Tree, t: Beyond) -> u128
+pub(crate) fn from_condition(c: u128, step: u128, body: &Tree, t: CostsAhead) -> u128
     requires c { c < 2 ^ 64 }
     requires step { step < 2 ^ 64 }
-    requires body { heft (part_of body.now) ≤ 2 ^ 125 }
-    requires t { tallest (targets t) ≤ 2 ^ 125 }
-    ensures { result ≡ spec.from_condition c (spec.turn_cost (c + step) (spec.back (spec.dear (part_of body.now)))) (spec.from_entry (part_of body.now) (sites.body_of (targets t) (step + (c + t.next)))) t.next }
+    requires body { cap_cost (part_of body.now) ≤ 2 ^ 125 }
+    requires t { greatest_target (targets t) ≤ 2 ^ 125 }
+    ensures { result ≡ spec.from_condition c (spec.turn_cost (c + step) (spec.back (spec.dearest_ways (part_of body.now))))
+        (spec.from_entry (part_of body.now) (sites.body_of (targets t) (step + (c + t.next)))) t.next }
 {
-    let once = turn_cost(c + step, dear(body));
+    let once = turn_cost(c + step, dearest_ways(body));
     let entry = from_entry(body, body_of(t, step + (c + t.next)));
     let out = entry.saturating_sub(once);
     c + if t.next < out { out } else { t.next }
@@ -56,8 +57,12 @@ fn push_step(step: Option<u64>, at: u128, out: &mut Items<i128>) -> Result<(), N
 
 /// Adds the potentials of the nodes, by their numbers.
 #[tactic(auto, using(crate::proofs::TreeLayers::tree_layers))]
-pub(crate) fn push_potentials(tree: &Tree, t: Beyond, out: &mut Items<i128>) -> Result<(), NoMemory>
-    requires { reach (part_of tree.now) + tallest (targets t) ≤ 2 ^ 124 }
+pub(crate) fn push_potentials(
+    tree: &Tree,
+    t: CostsAhead,
+    out: &mut Items<i128>,
+) -> Result<(), NoMemory>
+    requires { excess (part_of tree.now) + greatest_target (targets t) ≤ 2 ^ 124 }
     ensures { IfOk result (λ u. out.new ≡ out.old ++ map pos (spec.potentials (part_of tree.now) (targets t))) }
 {
     match tree {

@@ -2,10 +2,10 @@
 
 ghost use Rattle.std.specs.Prelude.{◌≡◌, ◌≤◌, ◌+◌, ◌^◌, ◌++◌, pos, map, IfOk};
 ghost use Rattle.peak_laws.specs.Parts as spec;
-ghost use Rattle.peak_laws.specs.Hefts.{heft, AllMost};
+ghost use Rattle.peak_laws.specs.Magnitudes.{cap_cost, WaysAreAtMost};
 ghost use Rattle.ipet_peak.specs.Trees.{part_of, turns_of};
 
-use crate::tree::{Tree, dear, step_cost};
+use crate::tree::{Tree, dearest_ways, step_cost};
 use crate::ways::turn_cost;
 use c_tree::NoMemory;
 use sqlite_items::Items;
@@ -14,16 +14,16 @@ use sqlite_items::Items;
 fn turn(c: u128, step: u128, body: &Tree) -> i128
     requires c { c ≤ 2 ^ 124 }
     requires step { step ≤ 2 ^ 124 }
-    requires body { heft (part_of body.now) ≤ 2 ^ 126 }
-    ensures { result ≡ pos (spec.turn_cost (c + step) (spec.back (spec.dear (part_of body.now)))) }
+    requires body { cap_cost (part_of body.now) ≤ 2 ^ 126 }
+    ensures { result ≡ pos (spec.turn_cost (c + step) (spec.back (spec.dearest_ways (part_of body.now)))) }
 {
-    turn_cost(c + step, dear(body)) as i128
+    turn_cost(c + step, dearest_ways(body)) as i128
 }
 
 /// Adds the costs of the turns, by the loops' conditions.
 #[tactic(auto, using(crate::proofs::TreeLayers::tree_layers))]
 pub(crate) fn push_turns(tree: &Tree, out: &mut Items<i128>) -> Result<(), NoMemory>
-    requires { heft (part_of tree.now) ≤ 2 ^ 126 }
+    requires { cap_cost (part_of tree.now) ≤ 2 ^ 126 }
     ensures { IfOk result (λ u. out.new ≡ out.old ++ map pos (turns_of (part_of tree.now))) }
 {
     match tree {

@@ -2,7 +2,7 @@
 
 ghost use Rattle.std.specs.Prelude.{◌≡◌, ◌≤◌, ◌<◌, ◌^◌, ◌+◌, ◌*◌};
 ghost use Rattle.peak_laws.specs.Parts as spec;
-ghost use Rattle.peak_laws.specs.Hefts.{Most, AllMost};
+ghost use Rattle.peak_laws.specs.Magnitudes.{WayIsAtMost, WaysAreAtMost};
 
 use peak_laws::{Leaving, Ways};
 
@@ -22,7 +22,7 @@ pub(crate) fn greater(o: Option<u128>, p: Option<u128>) -> Option<u128>
 /// The way with `c` before it.
 pub(crate) fn more(c: u128, o: Option<u128>) -> Option<u128>
     requires c { c ≤ 2 ^ 126 }
-    requires o { Most o (2 ^ 126) }
+    requires o { WayIsAtMost o (2 ^ 126) }
     ensures { result ≡ spec.more c o }
 {
     match o {
@@ -33,8 +33,8 @@ pub(crate) fn more(c: u128, o: Option<u128>) -> Option<u128>
 
 /// Two ways, one after the other.
 pub(crate) fn both(o: Option<u128>, p: Option<u128>) -> Option<u128>
-    requires o { Most o (2 ^ 126) }
-    requires p { Most p (2 ^ 126) }
+    requires o { WayIsAtMost o (2 ^ 126) }
+    requires p { WayIsAtMost p (2 ^ 126) }
     ensures { result ≡ spec.both o p }
 {
     match o {
@@ -77,8 +77,8 @@ pub(crate) fn block_ways(c: u128, leaving: Leaving) -> Ways
 
 /// Of two parts, one after the other.
 pub(crate) fn then_ways(a: Ways, b: Ways) -> Ways
-    requires a { AllMost a (2 ^ 126) }
-    requires b { AllMost b (2 ^ 126) }
+    requires a { WaysAreAtMost a (2 ^ 126) }
+    requires b { WaysAreAtMost b (2 ^ 126) }
     ensures { result ≡ spec.then_ways a b }
 {
     Ways {
@@ -90,11 +90,11 @@ pub(crate) fn then_ways(a: Ways, b: Ways) -> Ways
 }
 
 /// Of a condition of the cost `c`, with two parts.
-#[tactic(auto, using(peak_laws::proofs::Hefts::most_greater))]
+#[tactic(auto, using(peak_laws::proofs::Magnitudes::most_greater))]
 pub(crate) fn choice_ways(c: u128, a: Ways, b: Ways) -> Ways
     requires c { c ≤ 2 ^ 126 }
-    requires a { AllMost a (2 ^ 126) }
-    requires b { AllMost b (2 ^ 126) }
+    requires a { WaysAreAtMost a (2 ^ 126) }
+    requires b { WaysAreAtMost b (2 ^ 126) }
     ensures { result ≡ spec.choice_ways c a b }
 {
     Ways {
@@ -113,10 +113,10 @@ pub(crate) fn back(a: Ways) -> Option<u128>
 }
 
 /// What a dearest full turn costs, or 0 where no full turn exists: `c` is the cost of the condition and the step.
-#[tactic(auto, using(peak_laws::proofs::Hefts::most_greater))]
+#[tactic(auto, using(peak_laws::proofs::Magnitudes::most_greater))]
 pub(crate) fn turn_cost(c: u128, a: Ways) -> u128
     requires c { c ≤ 2 ^ 126 }
-    requires a { AllMost a (2 ^ 126) }
+    requires a { WaysAreAtMost a (2 ^ 126) }
     ensures { result ≡ spec.turn_cost c (spec.back a) }
 {
     match more(c, back(a)) {
@@ -129,7 +129,7 @@ pub(crate) fn turn_cost(c: u128, a: Ways) -> u128
 pub(crate) fn while_ways(c: u128, m: u128, y: u128, a: Ways) -> Ways
     requires room { (m + 1) * y + c ≤ 2 ^ 126 }
     requires m { m < 2 ^ 32 }
-    requires a { AllMost a (2 ^ 126) }
+    requires a { WaysAreAtMost a (2 ^ 126) }
     ensures { result ≡ spec.while_ways c m y a }
 {
     let all = (m + 1) * y + c;
@@ -142,10 +142,10 @@ pub(crate) fn while_ways(c: u128, m: u128, y: u128, a: Ways) -> Ways
 }
 
 /// Of `do`.
-#[tactic(auto, using(peak_laws::proofs::Hefts::most_greater))]
+#[tactic(auto, using(peak_laws::proofs::Magnitudes::most_greater))]
 pub(crate) fn do_ways(c: u128, m: u128, y: u128, a: Ways) -> Ways
     requires room { m * y + c ≤ 2 ^ 126 }
-    requires a { AllMost a (2 ^ 126) }
+    requires a { WaysAreAtMost a (2 ^ 126) }
     ensures { result ≡ spec.do_ways c m y a }
 {
     let turns = m * y;

@@ -4,8 +4,8 @@ use Rattle.std.specs.Prelude.{nat_le}
 use Rattle.std.proofs.lemmas.Bool.{leb-true, leb-false}
 use Rattle.lin_rows.specs.Vectors.{cost_by}
 use Rattle.flow_laws.specs.Sites.{Targets}
-use Rattle.peak_laws.specs.Parts.{ByEnd, ByBreak, ByContinue, ByReturn, Part, Nothing, Block, Then, Choice, While, Do, Body, greater, more, both, Ways, then_ways, choice_ways, while_ways, do_ways, body_ways, dear, back, turn, turn_cost, step_cost, step_costs}
-use Rattle.peak_laws.specs.Flows.{is_dearer, by_first, by_second, whole, then_first, then_second, choice_first, choice_second, made, while_stays, while_breaks, do_stays, do_breaks, inner, while_full, do_full, body_amounts, step_flows, flows, edge_costs, Leads, Feasible, times, value}
+use Rattle.peak_laws.specs.Parts.{ByEnd, ByBreak, ByContinue, ByReturn, Part, Nothing, Block, Then, Choice, While, Do, Body, greater, more, both, Ways, then_ways, choice_ways, while_ways, do_ways, body_ways, dearest_ways, back, turn, turn_cost, step_cost, step_costs}
+use Rattle.peak_laws.specs.Flows.{is_dearer, by_first, by_second, whole, then_first, then_second, choice_first, choice_second, amount_by_way, while_stays, while_breaks, do_stays, do_breaks, loop_body_amounts, while_full, do_full, body_amounts, step_flows, flows, edge_costs, Leads, Feasible, times, value}
 
 -- ---- choosing
 
@@ -45,9 +45,9 @@ pub leads_sum : (o : Option ℕ) (x z : ℕ) → Leads o x → Leads o z → Lea
 leads_sum None x z h k = omega (arith, h, k)
 leads_sum (Some d) x z h k = tt
 
-pub leads_made : (o : Option ℕ) (x : ℕ) → Leads o (made o x)
-leads_made None x = refl
-leads_made (Some d) x = tt
+pub leads_amount_by_way : (o : Option ℕ) (x : ℕ) → Leads o (amount_by_way o x)
+leads_amount_by_way None x = refl
+leads_amount_by_way (Some d) x = tt
 
 -- ---- costs
 
@@ -111,20 +111,20 @@ pub choice_second_feasible : (c : ℕ) (v w : Ways) (a : Targets) → Feasible (
 choice_second_feasible c v w a h =
     record { next = leads_second v.next w.next a.next (leads_more c (greater v.next w.next) a.next h.next); breaks = leads_second v.breaks w.breaks a.breaks (leads_more c (greater v.breaks w.breaks) a.breaks h.breaks); continues = leads_second v.continues w.continues a.continues (leads_more c (greater v.continues w.continues) a.continues h.continues); returns = leads_second v.returns w.returns a.returns (leads_more c (greater v.returns w.returns) a.returns h.returns) }
 
-inner_feasible : (w : Ways) (full out r : ℕ) → Leads (back w) full → Leads w.breaks out → Leads w.returns r → Feasible w (inner w full out r)
+inner_feasible : (w : Ways) (full out r : ℕ) → Leads (back w) full → Leads w.breaks out → Leads w.returns r → Feasible w (loop_body_amounts w full out r)
 inner_feasible w full out r h k l =
     record { next = leads_first w.next w.continues full; breaks = k; continues = leads_second w.next w.continues full h; returns = l }
 
-pub while_feasible : (c m y : ℕ) (w : Ways) (a : Targets) → Feasible (while_ways c m y w) a → Feasible w (inner w (while_full m w (while_stays c m y w a.next) (while_breaks c m y w a.next + a.returns)) (while_breaks c m y w a.next) a.returns)
+pub while_feasible : (c m y : ℕ) (w : Ways) (a : Targets) → Feasible (while_ways c m y w) a → Feasible w (loop_body_amounts w (while_full m w (while_stays c m y w a.next) (while_breaks c m y w a.next + a.returns)) (while_breaks c m y w a.next) a.returns)
 while_feasible c m y w a h =
-    inner_feasible w _ _ _ (leads_made (back w) _) (leads_more (m * y + c) w.breaks (while_breaks c m y w a.next) (leads_second (Some ((m + 1) * y + c)) (more (m * y + c) w.breaks) a.next h.next)) (leads_more (m * y + c) w.returns a.returns h.returns)
+    inner_feasible w _ _ _ (leads_amount_by_way (back w) _) (leads_more (m * y + c) w.breaks (while_breaks c m y w a.next) (leads_second (Some ((m + 1) * y + c)) (more (m * y + c) w.breaks) a.next h.next)) (leads_more (m * y + c) w.returns a.returns h.returns)
 
 pub stays_lead : (c m y : ℕ) (w : Ways) (x : ℕ) → Leads (back w) (do_stays c m y w x)
 stays_lead c m y w x = leads_more (m * y + c) (back w) (do_stays c m y w x) (leads_first (more (m * y + c) (back w)) (more (m * y) w.breaks) x)
 
-pub do_feasible : (c m y : ℕ) (w : Ways) (a : Targets) → Feasible (do_ways c m y w) a → Feasible w (inner w (do_full m w (do_stays c m y w a.next + (do_breaks c m y w a.next + a.returns)) + do_stays c m y w a.next) (do_breaks c m y w a.next) a.returns)
+pub do_feasible : (c m y : ℕ) (w : Ways) (a : Targets) → Feasible (do_ways c m y w) a → Feasible w (loop_body_amounts w (do_full m w (do_stays c m y w a.next + (do_breaks c m y w a.next + a.returns)) + do_stays c m y w a.next) (do_breaks c m y w a.next) a.returns)
 do_feasible c m y w a h =
-    inner_feasible w _ _ _ (leads_sum (back w) _ _ (leads_made (back w) _) (stays_lead c m y w a.next)) (leads_more (m * y) w.breaks (do_breaks c m y w a.next) (leads_second (more (m * y + c) (back w)) (more (m * y) w.breaks) a.next h.next)) (leads_more (m * y) w.returns a.returns h.returns)
+    inner_feasible w _ _ _ (leads_sum (back w) _ _ (leads_amount_by_way (back w) _) (stays_lead c m y w a.next)) (leads_more (m * y) w.breaks (do_breaks c m y w a.next) (leads_second (more (m * y + c) (back w)) (more (m * y) w.breaks) a.next h.next)) (leads_more (m * y) w.returns a.returns h.returns)
 
 pub body_feasible : (w : Ways) (a : Targets) → Feasible (body_ways w) a → Feasible w (body_amounts w a.next)
 body_feasible w a h =
@@ -157,14 +157,14 @@ choice_value c v w a h =
         omega (arith, times_choice o p x, times_more c (greater o p) x (leads_more c (greater o p) x h), all)
 
 -- all full turns together
-turn_value : (o : Option ℕ) (e m stays out : ℕ) → e * made o ((m + 1) * stays + m * out) + times o (made o ((m + 1) * stays + m * out)) ≡ (m + 1) * turn_cost e o * stays + m * turn_cost e o * out
+turn_value : (o : Option ℕ) (e m stays out : ℕ) → e * amount_by_way o ((m + 1) * stays + m * out) + times o (amount_by_way o ((m + 1) * stays + m * out)) ≡ (m + 1) * turn_cost e o * stays + m * turn_cost e o * out
 turn_value None e m stays out = omega arith
 turn_value (Some d) e m stays out = omega arith
 
-inner_value : (w : Ways) (full out r : ℕ) → value w (inner w full out r) ≡ times (back w) full + (times w.breaks out + times w.returns r)
+inner_value : (w : Ways) (full out r : ℕ) → value w (loop_body_amounts w full out r) ≡ times (back w) full + (times w.breaks out + times w.returns r)
 inner_value w full out r = omega (arith, times_choice w.next w.continues full)
 
-while_value : (c e m : ℕ) (w : Ways) (a : Targets) → (y : ℕ) → y ≡ turn_cost (c + e) (back w) → Feasible (while_ways c m y w) a → (full : ℕ) → full ≡ while_full m w (while_stays c m y w a.next) (while_breaks c m y w a.next + a.returns) → c * (full + (while_breaks c m y w a.next + a.returns)) + (c * while_stays c m y w a.next + (e * full + value w (inner w full (while_breaks c m y w a.next) a.returns))) ≡ value (while_ways c m y w) a
+while_value : (c e m : ℕ) (w : Ways) (a : Targets) → (y : ℕ) → y ≡ turn_cost (c + e) (back w) → Feasible (while_ways c m y w) a → (full : ℕ) → full ≡ while_full m w (while_stays c m y w a.next) (while_breaks c m y w a.next + a.returns) → c * (full + (while_breaks c m y w a.next + a.returns)) + (c * while_stays c m y w a.next + (e * full + value w (loop_body_amounts w full (while_breaks c m y w a.next) a.returns))) ≡ value (while_ways c m y w) a
 while_value c e m w a y is h full made_is =
     let stays = while_stays c m y w a.next in
     let out = while_breaks c m y w a.next in
@@ -175,11 +175,11 @@ while_value c e m w a y is h full made_is =
     let turns : (c + e) * full + times (back w) full ≡ (m + 1) * y * stays + m * y * (out + r) = subst (λ n. (c + e) * full + times (back w) full ≡ (m + 1) * n * stays + m * n * (out + r)) (sym is) (subst (λ n. (c + e) * n + times (back w) n ≡ (m + 1) * turn_cost (c + e) (back w) * stays + m * turn_cost (c + e) (back w) * (out + r)) (sym made_is) (turn_value (back w) (c + e) m stays (out + r))) in
     omega (arith, one, two, three, turns, inner_value w full out r)
 
-do_turn_value : (o : Option ℕ) (e m x : ℕ) → e * made o (m * x) + times o (made o (m * x)) ≡ m * turn_cost e o * x
+do_turn_value : (o : Option ℕ) (e m x : ℕ) → e * amount_by_way o (m * x) + times o (amount_by_way o (m * x)) ≡ m * turn_cost e o * x
 do_turn_value None e m x = omega arith
 do_turn_value (Some d) e m x = omega arith
 
-do_value : (c m : ℕ) (w : Ways) (a : Targets) → (y : ℕ) → y ≡ turn_cost (c + 0) (back w) → Feasible (do_ways c m y w) a → (full : ℕ) → full ≡ do_full m w (do_stays c m y w a.next + (do_breaks c m y w a.next + a.returns)) → value w (inner w (full + do_stays c m y w a.next) (do_breaks c m y w a.next) a.returns) + (c * full + c * do_stays c m y w a.next) ≡ value (do_ways c m y w) a
+do_value : (c m : ℕ) (w : Ways) (a : Targets) → (y : ℕ) → y ≡ turn_cost (c + 0) (back w) → Feasible (do_ways c m y w) a → (full : ℕ) → full ≡ do_full m w (do_stays c m y w a.next + (do_breaks c m y w a.next + a.returns)) → value w (loop_body_amounts w (full + do_stays c m y w a.next) (do_breaks c m y w a.next) a.returns) + (c * full + c * do_stays c m y w a.next) ≡ value (do_ways c m y w) a
 do_value c m w a y is h full made_is =
     let stays = do_stays c m y w a.next in
     let out = do_breaks c m y w a.next in
@@ -207,28 +207,28 @@ pub flows_length : (p : Part) (a : Targets) → length (flows p a) ≡ length (e
 flows_length Nothing a = refl
 flows_length (Block c l) a = refl
 flows_length (Then p q) a =
-    let x = then_first (dear p) (dear q) a in
-    let z = then_second (dear p) (dear q) a in
+    let x = then_first (dearest_ways p) (dearest_ways q) a in
+    let z = then_second (dearest_ways p) (dearest_ways q) a in
     omega (arith, length-append (flows p x) (flows q z), length-append (edge_costs p) (edge_costs q), flows_length p x, flows_length q z)
 flows_length (Choice c p q) a =
-    let x = choice_first (dear p) (dear q) a in
-    let z = choice_second (dear p) (dear q) a in
+    let x = choice_first (dearest_ways p) (dearest_ways q) a in
+    let z = choice_second (dearest_ways p) (dearest_ways q) a in
     omega (arith, length-append (flows p x) (flows q z), length-append (edge_costs p) (edge_costs q), flows_length p x, flows_length q z)
 flows_length (While c m s p) a =
-    let y = turn c s (dear p) in
-    let stays = while_stays c m y (dear p) a.next in
-    let breaks = while_breaks c m y (dear p) a.next in
-    let full = while_full m (dear p) stays (breaks + a.returns) in
-    let x = inner (dear p) full breaks a.returns in
+    let y = turn c s (dearest_ways p) in
+    let stays = while_stays c m y (dearest_ways p) a.next in
+    let breaks = while_breaks c m y (dearest_ways p) a.next in
+    let full = while_full m (dearest_ways p) stays (breaks + a.returns) in
+    let x = loop_body_amounts (dearest_ways p) full breaks a.returns in
     omega (arith, length-append (step_flows s full) (flows p x), length-append (step_costs s) (edge_costs p), step_flows_length s full, flows_length p x)
 flows_length (Do c m p) a =
-    let y = turn c None (dear p) in
-    let stays = do_stays c m y (dear p) a.next in
-    let breaks = do_breaks c m y (dear p) a.next in
-    let full = do_full m (dear p) (stays + (breaks + a.returns)) in
-    let x = inner (dear p) (full + stays) breaks a.returns in
+    let y = turn c None (dearest_ways p) in
+    let stays = do_stays c m y (dearest_ways p) a.next in
+    let breaks = do_breaks c m y (dearest_ways p) a.next in
+    let full = do_full m (dearest_ways p) (stays + (breaks + a.returns)) in
+    let x = loop_body_amounts (dearest_ways p) (full + stays) breaks a.returns in
     omega (arith, length-append (flows p x) (full ∷ (stays ∷ [])), length-append (edge_costs p) (c ∷ (c ∷ [])), flows_length p x)
-flows_length (Body p) a = flows_length p (body_amounts (dear p) a.next)
+flows_length (Body p) a = flows_length p (body_amounts (dearest_ways p) a.next)
 
 pub cost_append : (cs ds xs zs : List ℕ) → length xs ≡ length cs → cost_by (cs ++ ds) (xs ++ zs) ≡ cost_by cs xs + cost_by ds zs
 cost_append [] ds [] zs h = omega arith
@@ -236,40 +236,40 @@ cost_append [] ds (x ∷ xs) zs h = absurd (omega (arith, h))
 cost_append (c ∷ cs) ds [] zs h = absurd (omega (arith, h))
 cost_append (c ∷ cs) ds (x ∷ xs) zs h = omega (arith, cost_append cs ds xs zs (omega (arith, h)))
 
-pub flows_cost : (p : Part) (a : Targets) → Feasible (dear p) a → cost_by (edge_costs p) (flows p a) ≡ value (dear p) a
+pub flows_cost : (p : Part) (a : Targets) → Feasible (dearest_ways p) a → cost_by (edge_costs p) (flows p a) ≡ value (dearest_ways p) a
 flows_cost Nothing a h = omega (arith, h.breaks, h.continues, h.returns)
 flows_cost (Block c ByEnd) a h = omega arith
 flows_cost (Block c ByBreak) a h = omega arith
 flows_cost (Block c ByContinue) a h = omega arith
 flows_cost (Block c ByReturn) a h = omega arith
 flows_cost (Then p q) a h =
-    let v = dear p in
-    let w = dear q in
+    let v = dearest_ways p in
+    let w = dearest_ways q in
     cost_append (edge_costs p) (edge_costs q) (flows p (then_first v w a)) (flows q (then_second v w a)) (flows_length p (then_first v w a)) ∙ (λ i. flows_cost p (then_first v w a) (then_first_feasible v w a h) i + flows_cost q (then_second v w a) (then_second_feasible v w a h) i) ∙ then_value v w a h
 flows_cost (Choice c p q) a h =
-    let v = dear p in
-    let w = dear q in
+    let v = dearest_ways p in
+    let w = dearest_ways q in
     let x = choice_first v w a in
     let z = choice_second v w a in
     omega (arith, cost_append (edge_costs p) (edge_costs q) (flows p x) (flows q z) (flows_length p x), flows_cost p x (choice_first_feasible v w a), flows_cost q z (choice_second_feasible c v w a h), choice_value c v w a h)
 flows_cost (While c m s p) a h =
-    let w = dear p in
+    let w = dearest_ways p in
     let y = turn c s w in
     let stays = while_stays c m y w a.next in
     let breaks = while_breaks c m y w a.next in
     let full = while_full m w stays (breaks + a.returns) in
-    let x = inner w full breaks a.returns in
+    let x = loop_body_amounts w full breaks a.returns in
     omega (arith, cost_append (step_costs s) (edge_costs p) (step_flows s full) (flows p x) (step_flows_length s full), of_step s full, flows_cost p x (while_feasible c m y w a h), while_value c (step_cost s) m w a y refl h full refl)
   where
     of_step : (o : Option ℕ) (x : ℕ) → cost_by (step_costs o) (step_flows o x) ≡ step_cost o * x
     of_step None x = omega arith
     of_step (Some d) x = omega arith
 flows_cost (Do c m p) a h =
-    let w = dear p in
+    let w = dearest_ways p in
     let y = turn c None w in
     let stays = do_stays c m y w a.next in
     let breaks = do_breaks c m y w a.next in
     let full = do_full m w (stays + (breaks + a.returns)) in
-    let x = inner w (full + stays) breaks a.returns in
+    let x = loop_body_amounts w (full + stays) breaks a.returns in
     omega (arith, cost_append (edge_costs p) (c ∷ (c ∷ [])) (flows p x) (full ∷ (stays ∷ [])) (flows_length p x), flows_cost p x (do_feasible c m y w a h), do_value c m w a y refl h full refl)
-flows_cost (Body p) a h = flows_cost p (body_amounts (dear p) a.next) (body_feasible (dear p) a h) ∙ body_value (dear p) a
+flows_cost (Body p) a h = flows_cost p (body_amounts (dearest_ways p) a.next) (body_feasible (dearest_ways p) a h) ∙ body_value (dearest_ways p) a

@@ -12,9 +12,9 @@ use Rattle.lin_rows.specs.Meeting.{MeetsRow}
 use Rattle.lin_rows.specs.Vectors.{cost_by}
 use Rattle.lin_rows.specs.declared.row.Row.{Row}
 use Rattle.ipet_rows.specs.FlowRows.{node_factor, loop_factor, entry_row, node_row, node_rows, loop_row, loop_rows}
-use Rattle.peak_laws.specs.Parts.{Part, Body, greater, dear, size, part_edges, Fee, fees, most, turns}
+use Rattle.peak_laws.specs.Parts.{Part, Body, greater, dearest_ways, size, part_edges, CostedLoop, costed_loops, turn_limit, turns}
 use Rattle.peak_laws.specs.Flows.{whole, flows, Leads, Feasible, times}
-use Rattle.peak_laws.specs.Answers.{rings, at_end, once, peak_value, peak_counts}
+use Rattle.peak_laws.specs.Answers.{copies_of_loops, at_end, once, peak_value, peak_counts}
 use Rattle.ipet_rows.specs.Optimum.{MeetFlowRows, cost_of_counts}
 use Rattle.peak_laws.proofs.Dearest.{UpTo, upper, lower}
 use Rattle.peak_laws.proofs.Places.{Every, every_with, Within, within}
@@ -28,15 +28,15 @@ use Rattle.peak_laws.proofs.Shapes.{entry_edge, Shaped, known}
 -- ---- the dearest way through a callee's body
 
 -- some way leads through each part
-some_way : (p : Part) → (dear p).next ≡ None → (dear p).breaks ≡ None → (dear p).continues ≡ None → (dear p).returns ≡ None → ⊥
-some_way p n b c r = omega (arith, upper p 1 0 at_end (record { next = none (dear p).next n; breaks = none (dear p).breaks b; continues = none (dear p).continues c; returns = none (dear p).returns r }))
+some_way : (p : Part) → (dearest_ways p).next ≡ None → (dearest_ways p).breaks ≡ None → (dearest_ways p).continues ≡ None → (dearest_ways p).returns ≡ None → ⊥
+some_way p n b c r = omega (arith, upper p 1 0 at_end (record { next = none (dearest_ways p).next n; breaks = none (dearest_ways p).breaks b; continues = none (dearest_ways p).continues c; returns = none (dearest_ways p).returns r }))
   where
     none : (o : Option ℕ) → o ≡ None → UpTo 1 o 0 0
     none None h = tt
     none (Some d) h = absurd (cc)
 
 abbrev pub through : Part → Option ℕ
-through p = greater (greater (dear p).next (dear p).breaks) (greater (dear p).continues (dear p).returns)
+through p = greater (greater (dearest_ways p).next (dearest_ways p).breaks) (greater (dearest_ways p).continues (dearest_ways p).returns)
 
 greater_none : (o p : Option ℕ) → greater o p ≡ None → (o ≡ None) × (p ≡ None)
 greater_none None p h = (refl, h)
@@ -48,9 +48,9 @@ through_is p = by_way (through p) refl
   where
     by_way : (o : Option ℕ) → through p ≡ o → through p ≡ Some (peak_value (Body p))
     by_way None h =
-        let halves = greater_none (greater (dear p).next (dear p).breaks) (greater (dear p).continues (dear p).returns) h in
-        let near = greater_none (dear p).next (dear p).breaks halves.0 in
-        let far = greater_none (dear p).continues (dear p).returns halves.1 in
+        let halves = greater_none (greater (dearest_ways p).next (dearest_ways p).breaks) (greater (dearest_ways p).continues (dearest_ways p).returns) h in
+        let near = greater_none (dearest_ways p).next (dearest_ways p).breaks halves.0 in
+        let far = greater_none (dearest_ways p).continues (dearest_ways p).returns halves.1 in
         absurd (some_way p near.0 near.1 far.0 far.1)
     by_way (Some d) h =
         let low : UpTo 0 (Some d) 0 (peak_value (Body p)) = subst (λ o. UpTo 0 o 0 (peak_value (Body p))) h (lower (Body p) at_end).next in
@@ -58,7 +58,7 @@ through_is p = by_way (through p) refl
         let same : d ≡ peak_value (Body p) = omega (arith, low, high) in
         h ∙ ap Some same
 
-pub once_feasible : (p : Part) → Feasible (dear (Body p)) once
+pub once_feasible : (p : Part) → Feasible (dearest_ways (Body p)) once
 once_feasible p =
     record { next = subst (λ o. Leads o 1) (sym (through_is p)) tt; breaks = refl; continues = refl; returns = refl }
 
@@ -99,29 +99,29 @@ nodes_met t g p n (suc k) h le =
     All-cons (MeetsRow (peak_counts (Body p))) (node_row (edges g) n) (node_rows (edges g) (n + 1) k) (node_met t g p n h le) (nodes_met t g p (n + 1) k h (omega (arith, le)))
 
 -- over all edges, with edge 0
-loop_met : (t : Costs) (g : List Site) (p : Part) (f : Fee) → Shaped t g (Body p) → Known g (edges g) f → Within 2 (2 + size p) f → KeepsRow (part_edges (Body p) 2 (all_to 1)) (flows (Body p) once) (head (size p) 2 1) (whole once) f → MeetsRow (peak_counts (Body p)) (loop_row (edges g) (loop_of g f.ring))
+loop_met : (t : Costs) (g : List Site) (p : Part) (f : CostedLoop) → Shaped t g (Body p) → Known g (edges g) f → Within 2 (2 + size p) f → KeepsRow (part_edges (Body p) 2 (all_to 1)) (flows (Body p) once) (head (size p) 2 1) (whole once) f → MeetsRow (peak_counts (Body p)) (loop_row (edges g) (loop_of g f.loop_copy))
 loop_met t g p f h is w keeps =
     let q = Body p in
     let es = edges g in
     let ds = part_edges q 2 (all_to 1) in
     let xs = peak_counts q in
-    let l = loop_of g f.ring in
-    let turn : weigh (turns f.ring) es xs ≡ weigh (turns f.ring) ds (flows q once) = ap (λ y. weigh (turns f.ring) y xs) h.edges_are ∙ omega arith in
-    let into : weigh (enters f.ring) es xs ≡ (if enters f.ring (entry_edge q) then 1 else 0) + weigh (enters f.ring) ds (flows q once) = ap (λ y. weigh (enters f.ring) y xs) h.edges_are in
-    let first : (if enters f.ring (entry_edge q) then 1 else 0) ≡ at f.ring.from (head (size p) 2 1) 1 = ap (λ b. if b then 1 else 0) (outside_enters f.ring (entry_edge q) (inl (omega (arith, w.least)))) in
-    let sums : weigh (enters f.ring) ds (flows q once) + at f.ring.from (head (size p) 2 1) 1 ≡ weigh (enters f.ring) es xs = omega (arith, into, first) in
-    let most_is : weigh (turns f.ring) es xs ≤ most_turns l * weigh (enters f.ring) es xs = omega (arith, turn, keeps, ap (λ n. most f.ring * n) sums) in
-    subst (λ z. z ≤ℤ pos 0) (sym (left_is (loop_factor l) es xs (counts_long t g q h) ∙ loop_is l (turns f.ring) (enters f.ring) 0 es xs is)) (omega (arith, ints, most_is))
+    let l = loop_of g f.loop_copy in
+    let turn : weigh (turns f.loop_copy) es xs ≡ weigh (turns f.loop_copy) ds (flows q once) = ap (λ y. weigh (turns f.loop_copy) y xs) h.edges_are ∙ omega arith in
+    let into : weigh (enters f.loop_copy) es xs ≡ (if enters f.loop_copy (entry_edge q) then 1 else 0) + weigh (enters f.loop_copy) ds (flows q once) = ap (λ y. weigh (enters f.loop_copy) y xs) h.edges_are in
+    let first : (if enters f.loop_copy (entry_edge q) then 1 else 0) ≡ at f.loop_copy.from (head (size p) 2 1) 1 = ap (λ b. if b then 1 else 0) (outside_enters f.loop_copy (entry_edge q) (inl (omega (arith, w.least)))) in
+    let sums : weigh (enters f.loop_copy) ds (flows q once) + at f.loop_copy.from (head (size p) 2 1) 1 ≡ weigh (enters f.loop_copy) es xs = omega (arith, into, first) in
+    let most_is : weigh (turns f.loop_copy) es xs ≤ most_turns l * weigh (enters f.loop_copy) es xs = omega (arith, turn, keeps, ap (λ n. turn_limit f.loop_copy * n) sums) in
+    subst (λ z. z ≤ℤ pos 0) (sym (left_is (loop_factor l) es xs (counts_long t g q h) ∙ loop_is l (turns f.loop_copy) (enters f.loop_copy) 0 es xs is)) (omega (arith, ints, most_is))
 
-all_loops : (P : Row → Type 0) (g : List Site) (es : List Edge) (fs : List Fee) → Every (λ f. P (loop_row es (loop_of g f.ring))) fs → All P (loop_rows es (map (loop_of g) (rings fs)))
+all_loops : (P : Row → Type 0) (g : List Site) (es : List Edge) (fs : List CostedLoop) → Every (λ f. P (loop_row es (loop_of g f.loop_copy))) fs → All P (loop_rows es (map (loop_of g) (copies_of_loops fs)))
 all_loops P g es [] h = All-nil P
-all_loops P g es (f ∷ fs) h = All-cons P (loop_row es (loop_of g f.ring)) (loop_rows es (map (loop_of g) (rings fs))) h.0 (all_loops P g es fs h.1)
+all_loops P g es (f ∷ fs) h = All-cons P (loop_row es (loop_of g f.loop_copy)) (loop_rows es (map (loop_of g) (copies_of_loops fs))) h.0 (all_loops P g es fs h.1)
 
 pub counts_meet : (t : Costs) (g : List Site) (p : Part) → Shaped t g (Body p) → MeetFlowRows g (peak_counts (Body p))
 counts_meet t g p h =
     record {
       long = counts_long t g q h;
-      met = All-cons P entry_row (ns ++ loop_rows es (loops g)) first (All-append P ns (loop_rows es (loops g)) (nodes_met t g p 2 (length g - 2) h (omega arith)) (subst (λ cs. All P (loop_rows es (map (loop_of g) cs))) (sym h.loops_are) (all_loops P g es (fees q 2) loops_met)));
+      met = All-cons P entry_row (ns ++ loop_rows es (loops g)) first (All-append P ns (loop_rows es (loops g)) (nodes_met t g p 2 (length g - 2) h (omega arith)) (subst (λ cs. All P (loop_rows es (map (loop_of g) cs))) (sym h.loops_are) (all_loops P g es (costed_loops q 2) loops_met)));
     }
   where
     q : Part
@@ -139,6 +139,6 @@ counts_meet t g p h =
     first : P entry_row
     first = omega (arith, ints)
 
-    loops_met : Every (λ f. P (loop_row es (loop_of g f.ring))) (fees q 2)
+    loops_met : Every (λ f. P (loop_row es (loop_of g f.loop_copy))) (costed_loops q 2)
     loops_met =
-        every_with (λ f. Known g es f × Within 2 (2 + size p) f) (KeepsRow (part_edges q 2 (all_to 1)) (flows q once) (head (size p) 2 1) (whole once)) (λ f. P (loop_row es (loop_of g f.ring))) (fees q 2) (λ f k r. loop_met t g p f h k.0 k.1 r) (every_with (Known g es) (Within 2 (2 + size p)) (λ f. Known g es f × Within 2 (2 + size p) f) (fees q 2) (λ f k w. (k, w)) (known t g q h) (within p 2)) (turned q 2 (all_to 1) once (once_feasible p))
+        every_with (λ f. Known g es f × Within 2 (2 + size p) f) (KeepsRow (part_edges q 2 (all_to 1)) (flows q once) (head (size p) 2 1) (whole once)) (λ f. P (loop_row es (loop_of g f.loop_copy))) (costed_loops q 2) (λ f k r. loop_met t g p f h k.0 k.1 r) (every_with (Known g es) (Within 2 (2 + size p)) (λ f. Known g es f × Within 2 (2 + size p) f) (costed_loops q 2) (λ f k w. (k, w)) (known t g q h) (within p 2)) (turned q 2 (all_to 1) once (once_feasible p))

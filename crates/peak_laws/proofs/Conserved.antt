@@ -6,8 +6,8 @@ use Rattle.flow_laws.specs.declared.graph.Way.TheVariants.{True, False}
 use Rattle.flow_laws.specs.declared.graph.Edge.{Edge}
 use Rattle.flow_laws.specs.Sites.{Targets, head, with_next, body_of}
 use Rattle.flow_laws.specs.Graphs.{leaves, all_to}
-use Rattle.peak_laws.specs.Parts.{Leaving, ByEnd, ByBreak, ByContinue, ByReturn, Part, Nothing, Block, Then, Choice, While, Do, Body, Ways, dear, back, turn, step_costs, step_size, size, step_edges, part_edges, greater, more, both}
-use Rattle.peak_laws.specs.Flows.{by_first, by_second, whole, then_first, then_second, choice_first, choice_second, while_stays, while_breaks, do_stays, do_breaks, inner, while_full, do_full, body_amounts, step_flows, flows, edge_costs, Feasible}
+use Rattle.peak_laws.specs.Parts.{Leaving, ByEnd, ByBreak, ByContinue, ByReturn, Part, Nothing, Block, Then, Choice, While, Do, Body, Ways, dearest_ways, back, turn, step_costs, step_size, size, step_edges, part_edges, greater, more, both}
+use Rattle.peak_laws.specs.Flows.{by_first, by_second, whole, then_first, then_second, choice_first, choice_second, while_stays, while_breaks, do_stays, do_breaks, loop_body_amounts, while_full, do_full, body_amounts, step_flows, flows, edge_costs, Feasible}
 use Rattle.peak_laws.proofs.Places.{Every}
 use Rattle.peak_laws.proofs.Amounts.{shared, then_first_feasible, then_second_feasible, choice_first_feasible, choice_second_feasible, while_feasible, do_feasible, body_feasible, flows_length, step_flows_length}
 
@@ -118,7 +118,7 @@ head_self (suc m) n = refl
 -- what leaves the part at the node v, and what goes on from it to v; what arrives, and what the part is entered with
 abbrev pub IsConserved : Part → Type 0
 IsConserved p =
-    (n : ℕ) (k a : Targets) (v : ℕ) → Feasible (dear p) a → leaving v (part_edges p n k) (flows p a) + (at v k.next a.next + (at v k.breaks a.breaks + (at v k.continues a.continues + at v k.returns a.returns))) ≡ arriving v (part_edges p n k) (flows p a) + at v (head (size p) n k.next) (whole a)
+    (n : ℕ) (k a : Targets) (v : ℕ) → Feasible (dearest_ways p) a → leaving v (part_edges p n k) (flows p a) + (at v k.next a.next + (at v k.breaks a.breaks + (at v k.continues a.continues + at v k.returns a.returns))) ≡ arriving v (part_edges p n k) (flows p a) + at v (head (size p) n k.next) (whole a)
 
 conserve_nothing : IsConserved Nothing
 conserve_nothing n k a v h =
@@ -152,8 +152,8 @@ then_whole v w a =
 
 conserve_then : (p q : Part) → IsConserved p → IsConserved q → IsConserved (Then p q)
 conserve_then p q hp hq n k a v h =
-    let w = dear p in
-    let z = dear q in
+    let w = dearest_ways p in
+    let z = dearest_ways q in
     let x = head (size q) (n + size p) k.next in
     let kp = with_next k x in
     let first = then_first w z a in
@@ -169,8 +169,8 @@ choice_whole v w a =
 
 conserve_choice : (c : ℕ) (p q : Part) → IsConserved p → IsConserved q → IsConserved (Choice c p q)
 conserve_choice c p q hp hq n k a v h =
-    let w = dear p in
-    let z = dear q in
+    let w = dearest_ways p in
+    let z = dearest_ways q in
     let first = choice_first w z a in
     let second = choice_second w z a in
     let same = counts_length p (n + 1) k first in
@@ -186,13 +186,13 @@ conserve_step (Some d) n x v = omega arith
 
 conserve_while : (c m : ℕ) (s : Option ℕ) (p : Part) → IsConserved p → IsConserved (While c m s p)
 conserve_while c m s p hp n k a v h =
-    let w = dear p in
+    let w = dearest_ways p in
     let y = turn c s w in
     let stays = while_stays c m y w a.next in
     let out = while_breaks c m y w a.next in
     let r = a.returns in
     let full = while_full m w stays (out + r) in
-    let x = inner w full out r in
+    let x = loop_body_amounts w full out r in
     let again = head (step_size s) (n + 1) n in
     let kp = body_of k again in
     let np = n + 1 + step_size s in
@@ -206,13 +206,13 @@ conserve_while c m s p hp n k a v h =
 
 conserve_do : (c m : ℕ) (p : Part) → IsConserved p → IsConserved (Do c m p)
 conserve_do c m p hp n k a v h =
-    let w = dear p in
+    let w = dearest_ways p in
     let y = turn c None w in
     let stays = do_stays c m y w a.next in
     let out = do_breaks c m y w a.next in
     let r = a.returns in
     let full = do_full m w (stays + (out + r)) in
-    let x = inner w (full + stays) out r in
+    let x = loop_body_amounts w (full + stays) out r in
     let nc = n + size p in
     let kp = body_of k nc in
     let first = head (size p) n nc in
@@ -234,7 +234,7 @@ body_whole w x =
 
 conserve_body : (p : Part) → IsConserved p → IsConserved (Body p)
 conserve_body p hp n k a v h =
-    let w = dear p in
+    let w = dearest_ways p in
     let x = body_amounts w a.next in
     let near = by_first (greater w.next w.breaks) (greater w.continues w.returns) a.next in
     let far = by_second (greater w.next w.breaks) (greater w.continues w.returns) a.next in

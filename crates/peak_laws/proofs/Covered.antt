@@ -6,19 +6,19 @@ use Rattle.flow_laws.specs.declared.graph.Way.TheVariants.{Next, True, False}
 use Rattle.flow_laws.specs.declared.graph.Edge.{Edge}
 use Rattle.flow_laws.specs.Sites.{LoopCopy, Targets, head, with_next, body_of}
 use Rattle.flow_laws.specs.Graphs.{leaves, is_in, enters, all_to}
-use Rattle.peak_laws.specs.Parts.{Leaving, ByEnd, ByBreak, ByContinue, ByReturn, Part, Nothing, Block, Then, Choice, While, Do, Body, ahead, from_entry, dear, turn, at_condition, step_cost, step_size, size, step_costs, node_costs, step_potentials, potentials, step_edges, part_edges, Fee, fee, while_ring, do_ring, fees, most, turns, paid, taken, Covers}
+use Rattle.peak_laws.specs.Parts.{Leaving, ByEnd, ByBreak, ByContinue, ByReturn, Part, Nothing, Block, Then, Choice, While, Do, Body, ahead, from_entry, dearest_ways, turn, at_condition, step_cost, step_size, size, step_costs, node_costs, step_potentials, potentials, step_edges, part_edges, CostedLoop, costed_loop, while_copy, do_copy, costed_loops, turn_limit, turns, entry_charge, turn_refund, Covers}
 use Rattle.peak_laws.proofs.Dearest.{turning}
 use Rattle.peak_laws.proofs.Places.{Every, every_append, head_has, every_with, Apart, Outside, From, froms, To, tos, Within, within, Agrees, agrees_left, agrees_right, agrees_alike, step_costs_length, step_potentials_length, costs_length, potentials_length, idle}
 
 -- ---- what is paid
 
-pub paid_append : (fs gs : List Fee) (e : Edge) → paid (fs ++ gs) e ≡ paid fs e + paid gs e
-paid_append [] gs e = omega arith
-paid_append (f ∷ fs) gs e = omega (arith, paid_append fs gs e)
+pub entry_charge_append : (fs gs : List CostedLoop) (e : Edge) → entry_charge (fs ++ gs) e ≡ entry_charge fs e + entry_charge gs e
+entry_charge_append [] gs e = omega arith
+entry_charge_append (f ∷ fs) gs e = omega (arith, entry_charge_append fs gs e)
 
-pub taken_append : (fs gs : List Fee) (e : Edge) → taken (fs ++ gs) e ≡ taken fs e + taken gs e
-taken_append [] gs e = omega arith
-taken_append (f ∷ fs) gs e = omega (arith, taken_append fs gs e)
+pub turn_refund_append : (fs gs : List CostedLoop) (e : Edge) → turn_refund (fs ++ gs) e ≡ turn_refund fs e + turn_refund gs e
+turn_refund_append [] gs e = omega arith
+turn_refund_append (f ∷ fs) gs e = omega (arith, turn_refund_append fs gs e)
 
 at_most : (b : Bool) (x : ℕ) → (if b then x else 0) ≤ x
 at_most true x = omega arith
@@ -28,12 +28,12 @@ at_most false x = omega arith
 elsewhere : (l : LoopCopy) (e : Edge) → (e.to ≡ l.from → ⊥) → enters l e ≡ false
 elsewhere l e ne = ap (λ b. b && not (is_in l.from l.past e.from)) (ne_eqb e.to l.from ne)
 
-pub paid_apart : (lo hi : ℕ) (fs : List Fee) (e : Edge) → Every (Within lo hi) fs → Apart lo hi e.to → paid fs e ≡ 0
-paid_apart lo hi [] e w h = refl
-paid_apart lo hi (f ∷ fs) e w h =
+pub entry_charge_apart : (lo hi : ℕ) (fs : List CostedLoop) (e : Edge) → Every (Within lo hi) fs → Apart lo hi e.to → entry_charge fs e ≡ 0
+entry_charge_apart lo hi [] e w h = refl
+entry_charge_apart lo hi (f ∷ fs) e w h =
     let one = w.0 in
-    let none : enters f.ring e ≡ false = elsewhere f.ring e (λ is. omega (arith, is, h, one.least, one.some, one.most)) in
-    omega (arith, ap (λ b. if b then most f.ring * f.turn else 0) none, paid_apart lo hi fs e w.1 h)
+    let none : enters f.loop_copy e ≡ false = elsewhere f.loop_copy e (λ is. omega (arith, is, h, one.least, one.some, one.most)) in
+    omega (arith, ap (λ b. if b then turn_limit f.loop_copy * f.turn else 0) none, entry_charge_apart lo hi fs e w.1 h)
 
 -- nor does one from inside
 and_false : (a : Bool) → (a && false) ≡ false
@@ -44,8 +44,8 @@ pub inside_enters : (l : LoopCopy) (e : Edge) → l.from ≤ e.from → e.from <
 inside_enters l e le lt =
     (λ i. (e.to == l.from) && not (le-leb l.from e.from le i && lt-ltb e.from l.past lt i)) ∙ and_false (e.to == l.from)
 
-inside_pays : (l : LoopCopy) (y : ℕ) (e : Edge) → l.from ≤ e.from → e.from < l.past → (if enters l e then most l * y else 0) ≡ 0
-inside_pays l y e le lt = ap (λ b. if b then most l * y else 0) (inside_enters l e le lt)
+inside_pays : (l : LoopCopy) (y : ℕ) (e : Edge) → l.from ≤ e.from → e.from < l.past → (if enters l e then turn_limit l * y else 0) ≡ 0
+inside_pays l y e le lt = ap (λ b. if b then turn_limit l * y else 0) (inside_enters l e le lt)
 
 pub turned : (n t : ℕ) (l : LoopCopy) → n ≡ l.test → turns l (leaves n True t) ≡ true
 turned n t l is = eq-eqb n l.test is
@@ -66,12 +66,12 @@ first_is f n x xs h = h.0
 -- where a part has nodes: the potential of its first node, and what is paid to come there
 abbrev Enters : Part → Type 0
 Enters a =
-    (n : ℕ) (t : Targets) (v : ℕ → ℕ) (e : Edge) → 0 < size a → e.to ≡ n → Agrees v n (potentials a t) → v n + paid (fees a n) e ≤ from_entry a t
+    (n : ℕ) (t : Targets) (v : ℕ → ℕ) (e : Edge) → 0 < size a → e.to ≡ n → Agrees v n (potentials a t) → v n + entry_charge (costed_loops a n) e ≤ from_entry a t
 
 -- and where it may have none
 abbrev Comes : Part → Type 0
 Comes a =
-    (n x : ℕ) (t : Targets) (v : ℕ → ℕ) (e : Edge) → e.to ≡ head (size a) n x → v x ≡ t.next → Agrees v n (potentials a t) → v (head (size a) n x) + paid (fees a n) e ≤ from_entry a t
+    (n x : ℕ) (t : Targets) (v : ℕ → ℕ) (e : Edge) → e.to ≡ head (size a) n x → v x ≡ t.next → Agrees v n (potentials a t) → v (head (size a) n x) + entry_charge (costed_loops a n) e ≤ from_entry a t
 
 apart_none : (n m w : ℕ) → m ≡ 0 → Apart n (n + m) w
 apart_none n m w z = grind arith
@@ -79,10 +79,10 @@ apart_none n m w z = grind arith
 comes_of : (a : Part) → Enters a → Comes a
 comes_of a enter n x t v e is next p = by_size (size a) refl
   where
-    by_size : (m : ℕ) → size a ≡ m → v (head (size a) n x) + paid (fees a n) e ≤ from_entry a t
+    by_size : (m : ℕ) → size a ≡ m → v (head (size a) n x) + entry_charge (costed_loops a n) e ≤ from_entry a t
     by_size zero z =
         let to : head (size a) n x ≡ x = ap (λ m. head m n x) z in
-        omega (arith, z, ap v to, next, idle a t z, paid_apart n (n + size a) (fees a n) e (within a n) (apart_none n (size a) e.to z))
+        omega (arith, z, ap v to, next, idle a t z, entry_charge_apart n (n + size a) (costed_loops a n) e (within a n) (apart_none n (size a) e.to z))
     by_size (suc m) z =
         let to : head (size a) n x ≡ n = ap (λ m. head m n x) z in
         let at : e.to ≡ n = is ∙ to in
@@ -100,31 +100,31 @@ enter_then a b ha hb n t v e some is p = by_size (size a) refl
     right : Agrees v (n + size a) (potentials b t)
     right = agrees_right v n (n + size a) (potentials a u) (potentials b t) (omega (arith, potentials_length a u)) p
 
-    by_size : (m : ℕ) → size a ≡ m → v n + paid (fees a n ++ fees b (n + size a)) e ≤ from_entry a u
+    by_size : (m : ℕ) → size a ≡ m → v n + entry_charge (costed_loops a n ++ costed_loops b (n + size a)) e ≤ from_entry a u
     by_size zero z =
         let same : n + size a ≡ n = omega (arith, z) in
-        omega (arith, ap v same, paid_append (fees a n) (fees b (n + size a)) e, paid_apart n (n + size a) (fees a n) e (within a n) (apart_none n (size a) e.to z), idle a u z, hb (n + size a) t v e (omega (arith, z, some)) (omega (arith, same, is)) right)
+        omega (arith, ap v same, entry_charge_append (costed_loops a n) (costed_loops b (n + size a)) e, entry_charge_apart n (n + size a) (costed_loops a n) e (within a n) (apart_none n (size a) e.to z), idle a u z, hb (n + size a) t v e (omega (arith, z, some)) (omega (arith, same, is)) right)
     by_size (suc m) z =
-        omega (arith, paid_append (fees a n) (fees b (n + size a)) e, ha n u v e (omega (arith, z)) is left, paid_apart (n + size a) (n + size a + size b) (fees b (n + size a)) e (within b (n + size a)) (inl (omega (arith, z, is))))
+        omega (arith, entry_charge_append (costed_loops a n) (costed_loops b (n + size a)) e, ha n u v e (omega (arith, z)) is left, entry_charge_apart (n + size a) (n + size a + size b) (costed_loops b (n + size a)) e (within b (n + size a)) (inl (omega (arith, z, is))))
 
 enter_choice : (c : ℕ) (a b : Part) → Enters (Choice c a b)
 enter_choice c a b n t v e some is p =
-    omega (arith, p.0, paid_append (fees a (n + 1)) (fees b (n + 1 + size a)) e, paid_apart (n + 1) (n + 1 + size a) (fees a (n + 1)) e (within a (n + 1)) (inl (omega (arith, is))), paid_apart (n + 1 + size a) (n + 1 + size a + size b) (fees b (n + 1 + size a)) e (within b (n + 1 + size a)) (inl (omega (arith, is))))
+    omega (arith, p.0, entry_charge_append (costed_loops a (n + 1)) (costed_loops b (n + 1 + size a)) e, entry_charge_apart (n + 1) (n + 1 + size a) (costed_loops a (n + 1)) e (within a (n + 1)) (inl (omega (arith, is))), entry_charge_apart (n + 1 + size a) (n + 1 + size a + size b) (costed_loops b (n + 1 + size a)) e (within b (n + 1 + size a)) (inl (omega (arith, is))))
 
 enter_while : (c m : ℕ) (s : Option ℕ) (a : Part) → Enters (While c m s a)
 enter_while c m s a n t v e some is p =
-    omega (arith, p.0, at_most (enters (while_ring a n m s) e) ((m + 1) * turn c s (dear a)), paid_apart (n + 1 + step_size s) (n + 1 + step_size s + size a) (fees a (n + 1 + step_size s)) e (within a (n + 1 + step_size s)) (inl (omega (arith, is))))
+    omega (arith, p.0, at_most (enters (while_copy a n m s) e) ((m + 1) * turn c s (dearest_ways a)), entry_charge_apart (n + 1 + step_size s) (n + 1 + step_size s + size a) (costed_loops a (n + 1 + step_size s)) e (within a (n + 1 + step_size s)) (inl (omega (arith, is))))
 
 enter_do : (c m : ℕ) (a : Part) → Enters a → Enters (Do c m a)
 enter_do c m a ha n t v e some is p =
-    let q = at_condition c None (dear a) (from_entry a) t in
+    let q = at_condition c None (dearest_ways a) (from_entry a) t in
     let u = body_of t q in
     let left : Agrees v n (potentials a u) = agrees_left v n (potentials a u) (q ∷ []) p in
     let right : Agrees v (n + size a) (q ∷ []) = agrees_right v n (n + size a) (potentials a u) (q ∷ []) (omega (arith, potentials_length a u)) p in
     let to : head (size a) n (n + size a) ≡ n = self (size a) in
     let come = comes_of a ha n (n + size a) u v e (is ∙ sym to) right.0 left in
     let bound : m + 1 - 1 ≡ m = omega arith in
-    omega (arith, ap v to, paid_append (fees a n) (fee (do_ring a n m) (turn c None (dear a)) ∷ []) e, come, at_most (enters (do_ring a n m) e) ((m + 1 - 1) * turn c None (dear a)), ap (λ k. k * turn c None (dear a)) bound)
+    omega (arith, ap v to, entry_charge_append (costed_loops a n) (costed_loop (do_copy a n m) (turn c None (dearest_ways a)) ∷ []) e, come, at_most (enters (do_copy a n m) e) ((m + 1 - 1) * turn c None (dearest_ways a)), ap (λ k. k * turn c None (dearest_ways a)) bound)
   where
     self : (k : ℕ) → head k n (n + k) ≡ n
     self zero = omega arith
@@ -146,7 +146,7 @@ comes a = comes_of a (enter a)
 
 abbrev pub IsCovered : Part → Type 0
 IsCovered a =
-    (n : ℕ) (k t : Targets) (cost v : ℕ → ℕ) → Outside n (n + size a) k → Agrees cost n (node_costs a) → Laid v n k t (potentials a t) → Every (Covers cost v (fees a n)) (part_edges a n k)
+    (n : ℕ) (k t : Targets) (cost v : ℕ → ℕ) → Outside n (n + size a) k → Agrees cost n (node_costs a) → Laid v n k t (potentials a t) → Every (Covers cost v (costed_loops a n)) (part_edges a n k)
 
 ahead_is : (l : Leaving) (v : ℕ → ℕ) (k t : Targets) → v k.next ≡ t.next → v k.breaks ≡ t.breaks → v k.continues ≡ t.continues → v k.returns ≡ t.returns → v (ahead k l) ≡ ahead t l
 ahead_is ByEnd v k t n b c r = n
@@ -179,22 +179,22 @@ outside_narrow lo hi a b k le ge out =
     record { next = narrow lo hi a b k.next le ge out.next; breaks = narrow lo hi a b k.breaks le ge out.breaks; continues = narrow lo hi a b k.continues le ge out.continues; returns = narrow lo hi a b k.returns le ge out.returns }
 
 -- loops elsewhere change nothing
-beside_right : (lo hi : ℕ) (cost v : ℕ → ℕ) (fs gs : List Fee) (es : List Edge) → Every (Within lo hi) gs → Every (To (Apart lo hi)) es → Every (Covers cost v fs) es → Every (Covers cost v (fs ++ gs)) es
+beside_right : (lo hi : ℕ) (cost v : ℕ → ℕ) (fs gs : List CostedLoop) (es : List Edge) → Every (Within lo hi) gs → Every (To (Apart lo hi)) es → Every (Covers cost v fs) es → Every (Covers cost v (fs ++ gs)) es
 beside_right lo hi cost v fs gs es w far h =
-    every_with (To (Apart lo hi)) (Covers cost v fs) (Covers cost v (fs ++ gs)) es (λ e f c. omega (arith, c, paid_append fs gs e, taken_append fs gs e, paid_apart lo hi gs e w f)) far h
+    every_with (To (Apart lo hi)) (Covers cost v fs) (Covers cost v (fs ++ gs)) es (λ e f c. omega (arith, c, entry_charge_append fs gs e, turn_refund_append fs gs e, entry_charge_apart lo hi gs e w f)) far h
 
-beside_left : (lo hi : ℕ) (cost v : ℕ → ℕ) (fs gs : List Fee) (es : List Edge) → Every (Within lo hi) gs → Every (To (Apart lo hi)) es → Every (Covers cost v fs) es → Every (Covers cost v (gs ++ fs)) es
+beside_left : (lo hi : ℕ) (cost v : ℕ → ℕ) (fs gs : List CostedLoop) (es : List Edge) → Every (Within lo hi) gs → Every (To (Apart lo hi)) es → Every (Covers cost v fs) es → Every (Covers cost v (gs ++ fs)) es
 beside_left lo hi cost v fs gs es w far h =
-    every_with (To (Apart lo hi)) (Covers cost v fs) (Covers cost v (gs ++ fs)) es (λ e f c. omega (arith, c, paid_append gs fs e, taken_append gs fs e, paid_apart lo hi gs e w f)) far h
+    every_with (To (Apart lo hi)) (Covers cost v fs) (Covers cost v (gs ++ fs)) es (λ e f c. omega (arith, c, entry_charge_append gs fs e, turn_refund_append gs fs e, entry_charge_apart lo hi gs e w f)) far h
 
 -- nor does a loop round them
-around_left : (lo hi : ℕ) (cost v : ℕ → ℕ) (l : LoopCopy) (y : ℕ) (fs : List Fee) (es : List Edge) → l.from ≤ lo → hi ≤ l.past → Every (From lo hi) es → Every (Covers cost v fs) es → Every (Covers cost v (fee l y ∷ fs)) es
+around_left : (lo hi : ℕ) (cost v : ℕ → ℕ) (l : LoopCopy) (y : ℕ) (fs : List CostedLoop) (es : List Edge) → l.from ≤ lo → hi ≤ l.past → Every (From lo hi) es → Every (Covers cost v fs) es → Every (Covers cost v (costed_loop l y ∷ fs)) es
 around_left lo hi cost v l y fs es le ge from h =
-    every_with (From lo hi) (Covers cost v fs) (Covers cost v (fee l y ∷ fs)) es (λ e f c. omega (arith, c, inside_pays l y e (omega (arith, le, f.least)) (omega (arith, ge, f.most)))) from h
+    every_with (From lo hi) (Covers cost v fs) (Covers cost v (costed_loop l y ∷ fs)) es (λ e f c. omega (arith, c, inside_pays l y e (omega (arith, le, f.least)) (omega (arith, ge, f.most)))) from h
 
-around_right : (lo hi : ℕ) (cost v : ℕ → ℕ) (l : LoopCopy) (y : ℕ) (fs : List Fee) (es : List Edge) → l.from ≤ lo → hi ≤ l.past → Every (From lo hi) es → Every (Covers cost v fs) es → Every (Covers cost v (fs ++ (fee l y ∷ []))) es
+around_right : (lo hi : ℕ) (cost v : ℕ → ℕ) (l : LoopCopy) (y : ℕ) (fs : List CostedLoop) (es : List Edge) → l.from ≤ lo → hi ≤ l.past → Every (From lo hi) es → Every (Covers cost v fs) es → Every (Covers cost v (fs ++ (costed_loop l y ∷ []))) es
 around_right lo hi cost v l y fs es le ge from h =
-    every_with (From lo hi) (Covers cost v fs) (Covers cost v (fs ++ (fee l y ∷ []))) es (λ e f c. omega (arith, c, paid_append fs (fee l y ∷ []) e, taken_append fs (fee l y ∷ []) e, inside_pays l y e (omega (arith, le, f.least)) (omega (arith, ge, f.most)))) from h
+    every_with (From lo hi) (Covers cost v fs) (Covers cost v (fs ++ (costed_loop l y ∷ []))) es (λ e f c. omega (arith, c, entry_charge_append fs (costed_loop l y ∷ []) e, turn_refund_append fs (costed_loop l y ∷ []) e, inside_pays l y e (omega (arith, le, f.least)) (omega (arith, ge, f.most)))) from h
 
 cover_then : (a b : Part) → IsCovered a → IsCovered b → IsCovered (Then a b)
 cover_then a b ha hb n k t cost v out cs laid =
@@ -220,14 +220,14 @@ cover_then a b ha hb n k t cost v out cs laid =
     u : Targets
     u = with_next t w
 
-    fa : List Fee
-    fa = fees a n
+    fa : List CostedLoop
+    fa = costed_loops a n
 
-    fb : List Fee
-    fb = fees b (n + size a)
+    fb : List CostedLoop
+    fb = costed_loops b (n + size a)
 
-    all : List Fee
-    all = fees a n ++ fees b (n + size a)
+    all : List CostedLoop
+    all = costed_loops a n ++ costed_loops b (n + size a)
 
     Place : ℕ → Type 0
     Place i = (i ≡ x) ⊎ Apart nb hi i
@@ -288,9 +288,9 @@ cover_then a b ha hb n k t cost v out cs laid =
 
         by_goal : (e.to ≡ x) ⊎ Apart nb hi e.to → Covers cost v all e
         by_goal (inl is) =
-            omega (arith, c, at, instead_there x w v e.to is, comes b nb k.next t v e is laid.next right, ap v is, paid_append fa fb e, taken_append fa fb e)
+            omega (arith, c, at, instead_there x w v e.to is, comes b nb k.next t v e is laid.next right, ap v is, entry_charge_append fa fb e, turn_refund_append fa fb e)
         by_goal (inr apart) =
-            omega (arith, c, at, same e.to apart, paid_apart nb hi fb e (within b nb) apart, paid_append fa fb e, taken_append fa fb e)
+            omega (arith, c, at, same e.to apart, entry_charge_apart nb hi fb e (within b nb) apart, entry_charge_append fa fb e, turn_refund_append fa fb e)
 
 cover_choice : (c : ℕ) (a b : Part) → IsCovered a → IsCovered b → IsCovered (Choice c a b)
 cover_choice c a b ha hb n k t cost v out cs laid =
@@ -308,11 +308,11 @@ cover_choice c a b ha hb n k t cost v out cs laid =
     end : ℕ
     end = n + (1 + (size a + size b))
 
-    fa : List Fee
-    fa = fees a (n + 1)
+    fa : List CostedLoop
+    fa = costed_loops a (n + 1)
 
-    fb : List Fee
-    fb = fees b (n + 1 + size a)
+    fb : List CostedLoop
+    fb = costed_loops b (n + 1 + size a)
 
     out_a : Outside na nb k
     out_a = outside_narrow n end na nb k (omega arith) (omega arith) out
@@ -342,17 +342,17 @@ cover_choice c a b ha hb n k t cost v out cs laid =
     by_first =
         let e = leaves n True to_a in
         let apart = head_has (Apart nb hi) (size a) na k.next (λ lt. inl (omega (arith, lt))) out_b.next in
-        omega (arith, cs.0, laid.potentials.0, comes a na k.next t v e refl laid.next left, paid_append fa fb e, paid_apart nb hi fb e (within b nb) apart)
+        omega (arith, cs.0, laid.potentials.0, comes a na k.next t v e refl laid.next left, entry_charge_append fa fb e, entry_charge_apart nb hi fb e (within b nb) apart)
 
     by_second : Covers cost v (fa ++ fb) (leaves n False to_b)
     by_second =
         let e = leaves n False to_b in
         let apart = head_has (Apart na nb) (size b) nb k.next (λ lt. inr (omega arith)) out_a.next in
-        omega (arith, cs.0, laid.potentials.0, comes b nb k.next t v e refl laid.next right, paid_append fa fb e, paid_apart na nb fa e (within a na) apart)
+        omega (arith, cs.0, laid.potentials.0, comes b nb k.next t v e refl laid.next right, entry_charge_append fa fb e, entry_charge_apart na nb fa e (within a na) apart)
 
 cover_while : (c m : ℕ) (s : Option ℕ) (a : Part) → IsCovered a → IsCovered (While c m s a)
 cover_while c m s a ha n k t cost v out cs laid =
-    (by_true, (by_false, every_append (Covers cost v (own ∷ fa)) (step_edges s n) (part_edges a na kb) (by_step s refl) (around_left na hi cost v ring y fa (part_edges a na kb) (omega arith) (omega arith) (froms a na kb) in_body)))
+    (by_true, (by_false, every_append (Covers cost v (own ∷ fa)) (step_edges s n) (part_edges a na kb) (by_step s refl) (around_left na hi cost v loop_copy y fa (part_edges a na kb) (omega arith) (omega arith) (froms a na kb) in_body)))
   where
     r : ℕ
     r = step_size s
@@ -367,10 +367,10 @@ cover_while c m s a ha n k t cost v out cs laid =
     end = n + (1 + (step_size s + size a))
 
     y : ℕ
-    y = turn c s (dear a)
+    y = turn c s (dearest_ways a)
 
     q : ℕ
-    q = at_condition c s (dear a) (from_entry a) t
+    q = at_condition c s (dearest_ways a) (from_entry a) t
 
     again : ℕ
     again = head (step_size s) (n + 1) n
@@ -379,16 +379,16 @@ cover_while c m s a ha n k t cost v out cs laid =
     kb = body_of k (head (step_size s) (n + 1) n)
 
     u : Targets
-    u = body_of t (step_cost s + at_condition c s (dear a) (from_entry a) t)
+    u = body_of t (step_cost s + at_condition c s (dearest_ways a) (from_entry a) t)
 
-    ring : LoopCopy
-    ring = while_ring a n m s
+    loop_copy : LoopCopy
+    loop_copy = while_copy a n m s
 
-    own : Fee
-    own = fee (while_ring a n m s) (turn c s (dear a))
+    own : CostedLoop
+    own = costed_loop (while_copy a n m s) (turn c s (dearest_ways a))
 
-    fa : List Fee
-    fa = fees a (n + 1 + step_size s)
+    fa : List CostedLoop
+    fa = costed_loops a (n + 1 + step_size s)
 
     here : v n ≡ q
     here = laid.potentials.0
@@ -425,12 +425,12 @@ cover_while c m s a ha n k t cost v out cs laid =
     by_true : Covers cost v (own ∷ fa) (leaves n True (head (size a) na again))
     by_true =
         let e = leaves n True (head (size a) na again) in
-        omega (arith, cs.0, here, comes a na again u v e refl at_again right, turning c s a t, inside_pays ring y e (omega arith) (omega arith), ap (λ b. if b then y else 0) (turned n (head (size a) na again) ring refl))
+        omega (arith, cs.0, here, comes a na again u v e refl at_again right, turning c s a t, inside_pays loop_copy y e (omega arith) (omega arith), ap (λ b. if b then y else 0) (turned n (head (size a) na again) loop_copy refl))
 
     by_false : Covers cost v (own ∷ fa) (leaves n False k.next)
     by_false =
         let e = leaves n False k.next in
-        omega (arith, cs.0, here, laid.next, inside_pays ring y e (omega arith) (omega arith), paid_apart na hi fa e (within a na) out_a.next)
+        omega (arith, cs.0, here, laid.next, inside_pays loop_copy y e (omega arith) (omega arith), entry_charge_apart na hi fa e (within a na) out_a.next)
 
     by_step : (o : Option ℕ) → s ≡ o → Every (Covers cost v (own ∷ fa)) (step_edges o n)
     by_step None is = tt
@@ -439,11 +439,11 @@ cover_while c m s a ha n k t cost v out cs laid =
         let at : Agrees v (n + 1) ((d + q) ∷ []) = subst (λ o. Agrees v (n + 1) (step_potentials o q)) is left in
         let price : Agrees cost (n + 1) (d ∷ []) = subst (λ o. Agrees cost (n + 1) (step_costs o)) is (agrees_left cost (n + 1) (step_costs s) (node_costs a) cs.1) in
         let long : step_size s ≡ 1 = ap step_size is in
-        (omega (arith, here, at.0, price.0, inside_pays ring y e (omega arith) (omega (arith, long)), paid_apart na hi fa e (within a na) before), tt)
+        (omega (arith, here, at.0, price.0, inside_pays loop_copy y e (omega arith) (omega (arith, long)), entry_charge_apart na hi fa e (within a na) before), tt)
 
 cover_do : (c m : ℕ) (a : Part) → IsCovered a → IsCovered (Do c m a)
 cover_do c m a ha n k t cost v out cs laid =
-    every_append (Covers cost v (fa ++ (own ∷ []))) (part_edges a n kb) _ (around_right n nc cost v ring y fa (part_edges a n kb) (omega arith) (omega arith) (froms a n kb) in_body) (by_true, (by_false, tt))
+    every_append (Covers cost v (fa ++ (own ∷ []))) (part_edges a n kb) _ (around_right n nc cost v loop_copy y fa (part_edges a n kb) (omega arith) (omega arith) (froms a n kb) in_body) (by_true, (by_false, tt))
   where
     nc : ℕ
     nc = n + size a
@@ -452,25 +452,25 @@ cover_do c m a ha n k t cost v out cs laid =
     end = n + (size a + 1)
 
     y : ℕ
-    y = turn c None (dear a)
+    y = turn c None (dearest_ways a)
 
     q : ℕ
-    q = at_condition c None (dear a) (from_entry a) t
+    q = at_condition c None (dearest_ways a) (from_entry a) t
 
     kb : Targets
     kb = body_of k (n + size a)
 
     u : Targets
-    u = body_of t (at_condition c None (dear a) (from_entry a) t)
+    u = body_of t (at_condition c None (dearest_ways a) (from_entry a) t)
 
-    ring : LoopCopy
-    ring = do_ring a n m
+    loop_copy : LoopCopy
+    loop_copy = do_copy a n m
 
-    own : Fee
-    own = fee (do_ring a n m) (turn c None (dear a))
+    own : CostedLoop
+    own = costed_loop (do_copy a n m) (turn c None (dearest_ways a))
 
-    fa : List Fee
-    fa = fees a n
+    fa : List CostedLoop
+    fa = costed_loops a n
 
     left : Agrees v n (potentials a u)
     left = agrees_left v n (potentials a u) (q ∷ []) laid.potentials
@@ -499,12 +499,12 @@ cover_do c m a ha n k t cost v out cs laid =
     by_true : Covers cost v (fa ++ (own ∷ [])) (leaves nc True (head (size a) n nc))
     by_true =
         let e = leaves nc True (head (size a) n nc) in
-        omega (arith, price, here, comes a n nc u v e refl here left, once, paid_append fa (own ∷ []) e, taken_append fa (own ∷ []) e, inside_pays ring y e (omega arith) (omega arith), ap (λ b. if b then y else 0) (turned nc (head (size a) n nc) ring refl))
+        omega (arith, price, here, comes a n nc u v e refl here left, once, entry_charge_append fa (own ∷ []) e, turn_refund_append fa (own ∷ []) e, inside_pays loop_copy y e (omega arith) (omega arith), ap (λ b. if b then y else 0) (turned nc (head (size a) n nc) loop_copy refl))
 
     by_false : Covers cost v (fa ++ (own ∷ [])) (leaves nc False k.next)
     by_false =
         let e = leaves nc False k.next in
-        omega (arith, price, here, laid.next, paid_append fa (own ∷ []) e, taken_append fa (own ∷ []) e, inside_pays ring y e (omega arith) (omega arith), paid_apart n nc fa e (within a n) out_a.next)
+        omega (arith, price, here, laid.next, entry_charge_append fa (own ∷ []) e, turn_refund_append fa (own ∷ []) e, inside_pays loop_copy y e (omega arith) (omega arith), entry_charge_apart n nc fa e (within a n) out_a.next)
 
 pub covered : (a : Part) → IsCovered a
 covered Nothing n k t cost v out cs laid = tt

@@ -2,7 +2,7 @@
 use Rattle.std.proofs.Common.{◌≡◌, ◌≤◌, ℕ, ◌+◌, ◌*◌, max, Option, Some, None, refl, subst, arith}
 use Rattle.flow_laws.specs.Sites.{Targets, with_next, body_of}
 use Rattle.flow_laws.specs.Graphs.{all_to}
-use Rattle.peak_laws.specs.Parts.{Leaving, ByEnd, ByBreak, ByContinue, ByReturn, Part, Nothing, Block, Then, Choice, While, Do, Body, greater, more, both, Ways, back, turn, turn_cost, step_cost, dear, from_condition, at_condition, from_entry}
+use Rattle.peak_laws.specs.Parts.{Leaving, ByEnd, ByBreak, ByContinue, ByReturn, Part, Nothing, Block, Then, Choice, While, Do, Body, greater, more, both, Ways, back, turn, turn_cost, step_cost, dearest_ways, from_condition, at_condition, from_entry}
 
 -- with d before it and t ahead, at most x
 abbrev pub UpTo : ℕ → Option ℕ → ℕ → ℕ → Type 0
@@ -52,7 +52,7 @@ through d (Some e) w x h = h e refl
 -- ---- at most: what a part costs from its first node on is one of its ways
 
 abbrev pub Upper : Part → Type 0
-Upper a = (d x : ℕ) (t : Targets) → AllUpTo d (dear a) t x → d + from_entry a t ≤ x
+Upper a = (d x : ℕ) (t : Targets) → AllUpTo d (dearest_ways a) t x → d + from_entry a t ≤ x
 
 block_upper : (c : ℕ) (l : Leaving) → Upper (Block c l)
 block_upper c ByEnd d x t h = omega (arith, h.next)
@@ -63,25 +63,25 @@ block_upper c ByReturn d x t h = omega (arith, h.returns)
 then_upper : (a b : Part) → Upper a → Upper b → Upper (Then a b)
 then_upper a b ha hb d x t h =
     ha d x (with_next t (from_entry b t)) (record {
-      next = through d (dear a).next (from_entry b t) x (λ e is. hb (d + e) x t (record {
-        next = both_in d (dear a).next (dear b).next t.next x e is h.next;
-        breaks = both_in d (dear a).next (dear b).breaks t.breaks x e is (greater_right d (dear a).breaks (both (dear a).next (dear b).breaks) t.breaks x h.breaks);
-        continues = both_in d (dear a).next (dear b).continues t.continues x e is (greater_right d (dear a).continues (both (dear a).next (dear b).continues) t.continues x h.continues);
-        returns = both_in d (dear a).next (dear b).returns t.returns x e is (greater_right d (dear a).returns (both (dear a).next (dear b).returns) t.returns x h.returns);
+      next = through d (dearest_ways a).next (from_entry b t) x (λ e is. hb (d + e) x t (record {
+        next = both_in d (dearest_ways a).next (dearest_ways b).next t.next x e is h.next;
+        breaks = both_in d (dearest_ways a).next (dearest_ways b).breaks t.breaks x e is (greater_right d (dearest_ways a).breaks (both (dearest_ways a).next (dearest_ways b).breaks) t.breaks x h.breaks);
+        continues = both_in d (dearest_ways a).next (dearest_ways b).continues t.continues x e is (greater_right d (dearest_ways a).continues (both (dearest_ways a).next (dearest_ways b).continues) t.continues x h.continues);
+        returns = both_in d (dearest_ways a).next (dearest_ways b).returns t.returns x e is (greater_right d (dearest_ways a).returns (both (dearest_ways a).next (dearest_ways b).returns) t.returns x h.returns);
       }));
-      breaks = greater_left d (dear a).breaks (both (dear a).next (dear b).breaks) t.breaks x h.breaks;
-      continues = greater_left d (dear a).continues (both (dear a).next (dear b).continues) t.continues x h.continues;
-      returns = greater_left d (dear a).returns (both (dear a).next (dear b).returns) t.returns x h.returns;
+      breaks = greater_left d (dearest_ways a).breaks (both (dearest_ways a).next (dearest_ways b).breaks) t.breaks x h.breaks;
+      continues = greater_left d (dearest_ways a).continues (both (dearest_ways a).next (dearest_ways b).continues) t.continues x h.continues;
+      returns = greater_left d (dearest_ways a).returns (both (dearest_ways a).next (dearest_ways b).returns) t.returns x h.returns;
     })
 
 choice_upper : (c : ℕ) (a b : Part) → Upper a → Upper b → Upper (Choice c a b)
 choice_upper c a b ha hb d x t h =
-    let n = more_in d c (greater (dear a).next (dear b).next) t.next x h.next in
-    let k = more_in d c (greater (dear a).breaks (dear b).breaks) t.breaks x h.breaks in
-    let o = more_in d c (greater (dear a).continues (dear b).continues) t.continues x h.continues in
-    let r = more_in d c (greater (dear a).returns (dear b).returns) t.returns x h.returns in
-    let left = ha (d + c) x t (record { next = greater_left (d + c) (dear a).next (dear b).next t.next x n; breaks = greater_left (d + c) (dear a).breaks (dear b).breaks t.breaks x k; continues = greater_left (d + c) (dear a).continues (dear b).continues t.continues x o; returns = greater_left (d + c) (dear a).returns (dear b).returns t.returns x r }) in
-    let right = hb (d + c) x t (record { next = greater_right (d + c) (dear a).next (dear b).next t.next x n; breaks = greater_right (d + c) (dear a).breaks (dear b).breaks t.breaks x k; continues = greater_right (d + c) (dear a).continues (dear b).continues t.continues x o; returns = greater_right (d + c) (dear a).returns (dear b).returns t.returns x r }) in
+    let n = more_in d c (greater (dearest_ways a).next (dearest_ways b).next) t.next x h.next in
+    let k = more_in d c (greater (dearest_ways a).breaks (dearest_ways b).breaks) t.breaks x h.breaks in
+    let o = more_in d c (greater (dearest_ways a).continues (dearest_ways b).continues) t.continues x h.continues in
+    let r = more_in d c (greater (dearest_ways a).returns (dearest_ways b).returns) t.returns x h.returns in
+    let left = ha (d + c) x t (record { next = greater_left (d + c) (dearest_ways a).next (dearest_ways b).next t.next x n; breaks = greater_left (d + c) (dearest_ways a).breaks (dearest_ways b).breaks t.breaks x k; continues = greater_left (d + c) (dearest_ways a).continues (dearest_ways b).continues t.continues x o; returns = greater_left (d + c) (dearest_ways a).returns (dearest_ways b).returns t.returns x r }) in
+    let right = hb (d + c) x t (record { next = greater_right (d + c) (dearest_ways a).next (dearest_ways b).next t.next x n; breaks = greater_right (d + c) (dearest_ways a).breaks (dearest_ways b).breaks t.breaks x k; continues = greater_right (d + c) (dearest_ways a).continues (dearest_ways b).continues t.continues x o; returns = greater_right (d + c) (dearest_ways a).returns (dearest_ways b).returns t.returns x r }) in
     omega (arith, left, right)
 
 -- ---- turns
@@ -98,21 +98,21 @@ turn_continue c None (Some f) e is = let same : f ≡ e = cc in omega (arith, sa
 turn_continue c (Some g) (Some f) e is = let same : f ≡ e = cc in omega (arith, same)
 
 -- a body's ways, where it leads back to a place before which v stands and each way back costs at most y - c
-body_upto : (a : Part) (c s d x v : ℕ) (t : Targets) → d + turn_cost c (back (dear a)) + v ≤ x + c → UpTo d (dear a).breaks t.next x → UpTo d (dear a).returns t.returns x → AllUpTo d (dear a) (body_of t v) x
+body_upto : (a : Part) (c s d x v : ℕ) (t : Targets) → d + turn_cost c (back (dearest_ways a)) + v ≤ x + c → UpTo d (dearest_ways a).breaks t.next x → UpTo d (dearest_ways a).returns t.returns x → AllUpTo d (dearest_ways a) (body_of t v) x
 body_upto a c s d x v t h k r =
     record {
-      next = through d (dear a).next v x (λ e is. omega (arith, h, turn_next c (dear a).next (dear a).continues e is));
+      next = through d (dearest_ways a).next v x (λ e is. omega (arith, h, turn_next c (dearest_ways a).next (dearest_ways a).continues e is));
       breaks = k;
-      continues = through d (dear a).continues v x (λ e is. omega (arith, h, turn_continue c (dear a).next (dear a).continues e is));
+      continues = through d (dearest_ways a).continues v x (λ e is. omega (arith, h, turn_continue c (dearest_ways a).next (dearest_ways a).continues e is));
       returns = r;
     }
 
 while_upper : (c m : ℕ) (s : Option ℕ) (a : Part) → Upper a → Upper (While c m s a)
 while_upper c m s a ha d x t h =
-    let y = turn c s (dear a) in
-    let n : d + ((m + 1) * y + c) + t.next ≤ x = greater_left d (Some ((m + 1) * y + c)) (more (m * y + c) (dear a).breaks) t.next x h.next in
-    let k = more_in d (m * y + c) (dear a).breaks t.next x (greater_right d (Some ((m + 1) * y + c)) (more (m * y + c) (dear a).breaks) t.next x h.next) in
-    let r = more_in d (m * y + c) (dear a).returns t.returns x h.returns in
+    let y = turn c s (dearest_ways a) in
+    let n : d + ((m + 1) * y + c) + t.next ≤ x = greater_left d (Some ((m + 1) * y + c)) (more (m * y + c) (dearest_ways a).breaks) t.next x h.next in
+    let k = more_in d (m * y + c) (dearest_ways a).breaks t.next x (greater_right d (Some ((m + 1) * y + c)) (more (m * y + c) (dearest_ways a).breaks) t.next x h.next) in
+    let r = more_in d (m * y + c) (dearest_ways a).returns t.returns x h.returns in
     let v = step_cost s + (c + t.next) in
     let out = ha (d + (m * y + c)) x (body_of t v) (body_upto a (c + step_cost s) 0 (d + (m * y + c)) x v t (omega (arith, n)) k r) in
     omega (arith, n, out)
@@ -126,31 +126,31 @@ way_continue d a t x e h is = subst (λ o. UpTo d o t x) is (greater_right d a.n
 
 do_upper : (c m : ℕ) (a : Part) → Upper a → Upper (Do c m a)
 do_upper c m a ha d x t h =
-    let y = turn c None (dear a) in
-    let b = more_in d (m * y + c) (back (dear a)) t.next x (greater_left d (more (m * y + c) (back (dear a))) (more (m * y) (dear a).breaks) t.next x h.next) in
-    let k = more_in d (m * y) (dear a).breaks t.next x (greater_right d (more (m * y + c) (back (dear a))) (more (m * y) (dear a).breaks) t.next x h.next) in
-    let r = more_in d (m * y) (dear a).returns t.returns x h.returns in
+    let y = turn c None (dearest_ways a) in
+    let b = more_in d (m * y + c) (back (dearest_ways a)) t.next x (greater_left d (more (m * y + c) (back (dearest_ways a))) (more (m * y) (dearest_ways a).breaks) t.next x h.next) in
+    let k = more_in d (m * y) (dearest_ways a).breaks t.next x (greater_right d (more (m * y + c) (back (dearest_ways a))) (more (m * y) (dearest_ways a).breaks) t.next x h.next) in
+    let r = more_in d (m * y) (dearest_ways a).returns t.returns x h.returns in
     let v = step_cost None + (c + t.next) in
     let first : d + m * y + from_entry a (body_of t v) ≤ x = ha (d + m * y) x (body_of t v) (record {
-      next = through (d + m * y) (dear a).next v x (λ e is. omega (arith, way_next (d + (m * y + c)) (dear a) t.next x e b is));
+      next = through (d + m * y) (dearest_ways a).next v x (λ e is. omega (arith, way_next (d + (m * y + c)) (dearest_ways a) t.next x e b is));
       breaks = k;
-      continues = through (d + m * y) (dear a).continues v x (λ e is. omega (arith, way_continue (d + (m * y + c)) (dear a) t.next x e b is));
+      continues = through (d + m * y) (dearest_ways a).continues v x (λ e is. omega (arith, way_continue (d + (m * y + c)) (dearest_ways a) t.next x e b is));
       returns = r;
     }) in
     let q = from_condition c y (from_entry a (body_of t v)) t.next in
     let all : d + m * y + from_entry a (body_of t q) ≤ x = ha (d + m * y) x (body_of t q) (record {
-      next = through (d + m * y) (dear a).next q x (λ e is. omega (arith, first, way_next (d + (m * y + c)) (dear a) t.next x e b is, turn_next (c + 0) (dear a).next (dear a).continues e is));
+      next = through (d + m * y) (dearest_ways a).next q x (λ e is. omega (arith, first, way_next (d + (m * y + c)) (dearest_ways a) t.next x e b is, turn_next (c + 0) (dearest_ways a).next (dearest_ways a).continues e is));
       breaks = k;
-      continues = through (d + m * y) (dear a).continues q x (λ e is. omega (arith, first, way_continue (d + (m * y + c)) (dear a) t.next x e b is, turn_continue (c + 0) (dear a).next (dear a).continues e is));
+      continues = through (d + m * y) (dearest_ways a).continues q x (λ e is. omega (arith, first, way_continue (d + (m * y + c)) (dearest_ways a) t.next x e b is, turn_continue (c + 0) (dearest_ways a).next (dearest_ways a).continues e is));
       returns = r;
     }) in
     omega (arith, all)
 
 body_upper : (a : Part) → Upper a → Upper (Body a)
 body_upper a ha d x t h =
-    let one = greater_left d (greater (dear a).next (dear a).breaks) (greater (dear a).continues (dear a).returns) t.next x h.next in
-    let two = greater_right d (greater (dear a).next (dear a).breaks) (greater (dear a).continues (dear a).returns) t.next x h.next in
-    ha d x (all_to t.next) (record { next = greater_left d (dear a).next (dear a).breaks t.next x one; breaks = greater_right d (dear a).next (dear a).breaks t.next x one; continues = greater_left d (dear a).continues (dear a).returns t.next x two; returns = greater_right d (dear a).continues (dear a).returns t.next x two })
+    let one = greater_left d (greater (dearest_ways a).next (dearest_ways a).breaks) (greater (dearest_ways a).continues (dearest_ways a).returns) t.next x h.next in
+    let two = greater_right d (greater (dearest_ways a).next (dearest_ways a).breaks) (greater (dearest_ways a).continues (dearest_ways a).returns) t.next x h.next in
+    ha d x (all_to t.next) (record { next = greater_left d (dearest_ways a).next (dearest_ways a).breaks t.next x one; breaks = greater_right d (dearest_ways a).next (dearest_ways a).breaks t.next x one; continues = greater_left d (dearest_ways a).continues (dearest_ways a).returns t.next x two; returns = greater_right d (dearest_ways a).continues (dearest_ways a).returns t.next x two })
 
 pub upper : (a : Part) → Upper a
 upper Nothing d x t h = omega (arith, h.next)
@@ -164,7 +164,7 @@ upper (Body a) d x t h = body_upper a (upper a) d x t h
 -- ---- at least: each way is within what a part costs from its first node on
 
 abbrev pub Lower : Part → Type 0
-Lower a = (t : Targets) → AllUpTo 0 (dear a) t (from_entry a t)
+Lower a = (t : Targets) → AllUpTo 0 (dearest_ways a) t (from_entry a t)
 
 weaken : (d : ℕ) (o : Option ℕ) (t x z : ℕ) → UpTo d o t x → x ≤ z → UpTo d o t z
 weaken d None t x z h le = tt
@@ -189,10 +189,10 @@ then_lower a b ha hb t =
     let one = ha (with_next t w) in
     let two = hb t in
     record {
-      next = both_lower (dear a).next (dear b).next w t.next x one.next two.next;
-      breaks = greater_both 0 (dear a).breaks (both (dear a).next (dear b).breaks) t.breaks x one.breaks (both_lower (dear a).next (dear b).breaks w t.breaks x one.next two.breaks);
-      continues = greater_both 0 (dear a).continues (both (dear a).next (dear b).continues) t.continues x one.continues (both_lower (dear a).next (dear b).continues w t.continues x one.next two.continues);
-      returns = greater_both 0 (dear a).returns (both (dear a).next (dear b).returns) t.returns x one.returns (both_lower (dear a).next (dear b).returns w t.returns x one.next two.returns);
+      next = both_lower (dearest_ways a).next (dearest_ways b).next w t.next x one.next two.next;
+      breaks = greater_both 0 (dearest_ways a).breaks (both (dearest_ways a).next (dearest_ways b).breaks) t.breaks x one.breaks (both_lower (dearest_ways a).next (dearest_ways b).breaks w t.breaks x one.next two.breaks);
+      continues = greater_both 0 (dearest_ways a).continues (both (dearest_ways a).next (dearest_ways b).continues) t.continues x one.continues (both_lower (dearest_ways a).next (dearest_ways b).continues w t.continues x one.next two.continues);
+      returns = greater_both 0 (dearest_ways a).returns (both (dearest_ways a).next (dearest_ways b).returns) t.returns x one.returns (both_lower (dearest_ways a).next (dearest_ways b).returns w t.returns x one.next two.returns);
     }
 
 -- c more on both sides
@@ -207,10 +207,10 @@ choice_lower c a b ha hb t =
     let x = from_entry a t in
     let z = from_entry b t in
     record {
-      next = choice_one c (dear a).next (dear b).next t.next x z (ha t).next (hb t).next;
-      breaks = choice_one c (dear a).breaks (dear b).breaks t.breaks x z (ha t).breaks (hb t).breaks;
-      continues = choice_one c (dear a).continues (dear b).continues t.continues x z (ha t).continues (hb t).continues;
-      returns = choice_one c (dear a).returns (dear b).returns t.returns x z (ha t).returns (hb t).returns;
+      next = choice_one c (dearest_ways a).next (dearest_ways b).next t.next x z (ha t).next (hb t).next;
+      breaks = choice_one c (dearest_ways a).breaks (dearest_ways b).breaks t.breaks x z (ha t).breaks (hb t).breaks;
+      continues = choice_one c (dearest_ways a).continues (dearest_ways b).continues t.continues x z (ha t).continues (hb t).continues;
+      returns = choice_one c (dearest_ways a).returns (dearest_ways b).returns t.returns x z (ha t).returns (hb t).returns;
     }
 
 -- with n before it
@@ -220,31 +220,31 @@ before n (Some e) t x z h le = omega (arith, h, le)
 
 while_lower : (c m : ℕ) (s : Option ℕ) (a : Part) → Lower a → Lower (While c m s a)
 while_lower c m s a ha t =
-    let y = turn c s (dear a) in
+    let y = turn c s (dearest_ways a) in
     let w = from_entry a (body_of t (step_cost s + (c + t.next))) in
     let one = ha (body_of t (step_cost s + (c + t.next))) in
     let x = (m + 1) * y + from_condition c y w t.next in
     let le : (m * y + c) + w ≤ x = omega arith in
     record {
-      next = greater_both 0 (Some ((m + 1) * y + c)) (more (m * y + c) (dear a).breaks) t.next x (omega arith) (before (m * y + c) (dear a).breaks t.next w x one.breaks le);
+      next = greater_both 0 (Some ((m + 1) * y + c)) (more (m * y + c) (dearest_ways a).breaks) t.next x (omega arith) (before (m * y + c) (dearest_ways a).breaks t.next w x one.breaks le);
       breaks = tt;
       continues = tt;
-      returns = before (m * y + c) (dear a).returns t.returns w x one.returns le;
+      returns = before (m * y + c) (dearest_ways a).returns t.returns w x one.returns le;
     }
 
 do_lower : (c m : ℕ) (a : Part) → Lower a → Lower (Do c m a)
 do_lower c m a ha t =
-    let y = turn c None (dear a) in
+    let y = turn c None (dearest_ways a) in
     let q = from_condition c y (from_entry a (body_of t (step_cost None + (c + t.next)))) t.next in
     let w = from_entry a (body_of t q) in
     let one = ha (body_of t q) in
     let x = m * y + w in
-    let leads : UpTo 0 (back (dear a)) q w = greater_both 0 (dear a).next (dear a).continues q w one.next one.continues in
+    let leads : UpTo 0 (back (dearest_ways a)) q w = greater_both 0 (dearest_ways a).next (dearest_ways a).continues q w one.next one.continues in
     record {
-      next = greater_both 0 (more (m * y + c) (back (dear a))) (more (m * y) (dear a).breaks) t.next x (shift (back (dear a)) (m * y) c t.next q w (omega arith) leads) (before (m * y) (dear a).breaks t.next w x one.breaks (omega arith));
+      next = greater_both 0 (more (m * y + c) (back (dearest_ways a))) (more (m * y) (dearest_ways a).breaks) t.next x (shift (back (dearest_ways a)) (m * y) c t.next q w (omega arith) leads) (before (m * y) (dearest_ways a).breaks t.next w x one.breaks (omega arith));
       breaks = tt;
       continues = tt;
-      returns = before (m * y) (dear a).returns t.returns w x one.returns (omega arith);
+      returns = before (m * y) (dearest_ways a).returns t.returns w x one.returns (omega arith);
     }
   where
     shift : (o : Option ℕ) (n c t q w : ℕ) → c + t ≤ q → UpTo 0 o q w → UpTo 0 (more (n + c) o) t (n + w)
@@ -256,7 +256,7 @@ body_lower a ha t =
     let x = from_entry a (all_to t.next) in
     let one = ha (all_to t.next) in
     record {
-      next = greater_both 0 (greater (dear a).next (dear a).breaks) (greater (dear a).continues (dear a).returns) t.next x (greater_both 0 (dear a).next (dear a).breaks t.next x one.next one.breaks) (greater_both 0 (dear a).continues (dear a).returns t.next x one.continues one.returns);
+      next = greater_both 0 (greater (dearest_ways a).next (dearest_ways a).breaks) (greater (dearest_ways a).continues (dearest_ways a).returns) t.next x (greater_both 0 (dearest_ways a).next (dearest_ways a).breaks t.next x one.next one.breaks) (greater_both 0 (dearest_ways a).continues (dearest_ways a).returns t.next x one.continues one.returns);
       breaks = tt;
       continues = tt;
       returns = tt;
@@ -274,13 +274,13 @@ lower (Body a) t = body_lower a (lower a) t
 -- ---- a loop's condition
 
 -- going once more through the body costs no more than what the turn takes off
-pub turning : (c : ℕ) (s : Option ℕ) (a : Part) (t : Targets) → c + from_entry a (body_of t (step_cost s + at_condition c s (dear a) (from_entry a) t)) ≤ at_condition c s (dear a) (from_entry a) t + turn c s (dear a)
+pub turning : (c : ℕ) (s : Option ℕ) (a : Part) (t : Targets) → c + from_entry a (body_of t (step_cost s + at_condition c s (dearest_ways a) (from_entry a) t)) ≤ at_condition c s (dearest_ways a) (from_entry a) t + turn c s (dearest_ways a)
 turning c s a t =
-    let y = turn c s (dear a) in
-    let q = at_condition c s (dear a) (from_entry a) t in
+    let y = turn c s (dearest_ways a) in
+    let q = at_condition c s (dearest_ways a) (from_entry a) t in
     let v = step_cost s + (c + t.next) in
     let low = lower a (body_of t v) in
-    upper a c (q + y) (body_of t (step_cost s + q)) (body_upto a (c + step_cost s) 0 c (q + y) (step_cost s + q) t (omega arith) (exit (dear a).breaks (from_entry a (body_of t v)) y t.next low.breaks) (exit (dear a).returns (from_entry a (body_of t v)) y t.returns low.returns))
+    upper a c (q + y) (body_of t (step_cost s + q)) (body_upto a (c + step_cost s) 0 c (q + y) (step_cost s + q) t (omega arith) (exit (dearest_ways a).breaks (from_entry a (body_of t v)) y t.next low.breaks) (exit (dearest_ways a).returns (from_entry a (body_of t v)) y t.returns low.returns))
   where
     exit : (o : Option ℕ) (w y n : ℕ) → UpTo 0 o n w → UpTo c o n (from_condition c y w t.next + y)
     exit None w y n h = tt

@@ -16,10 +16,10 @@ use Rattle.flow_laws.specs.Sites.{LoopCopy, Content, Simple, Jump, Give, Enter, 
 use Rattle.flow_laws.specs.Graphs.{leaves, outs, edges_from, loops_at, loop_copies, all_to}
 use Rattle.flow_laws.specs.Paths.{cost_of_block}
 use Rattle.flow_laws.proofs.Sizes.{HaveSizes, is_run, flow_length, row_length, held_length}
-use Rattle.peak_laws.specs.Parts.{Leaving, ByEnd, ByBreak, ByContinue, ByReturn, Part, Nothing, Block, Then, Choice, While, Do, Body, ahead, step_costs, step_size, size, node_costs, step_edges, part_edges, Fee, fee, while_ring, do_ring, fees}
-use Rattle.peak_laws.specs.Answers.{rings}
-use Rattle.peak_laws.specs.Hefts.{step_caps, node_caps}
-use Rattle.peak_laws.specs.ProgramParts.{is_nothing, joined, pending, past_run, call_part, held_step, part, row_part, held_part, costs_in}
+use Rattle.peak_laws.specs.Parts.{Leaving, ByEnd, ByBreak, ByContinue, ByReturn, Part, Nothing, Block, Then, Choice, While, Do, Body, ahead, step_costs, step_size, size, node_costs, step_edges, part_edges, CostedLoop, costed_loop, while_copy, do_copy, costed_loops}
+use Rattle.peak_laws.specs.Answers.{copies_of_loops}
+use Rattle.peak_laws.specs.Magnitudes.{step_caps, node_caps}
+use Rattle.peak_laws.specs.ProgramParts.{is_nothing, sequence, pending_block, block_past_run, call_part, held_step, part, row_part, held_part, costs_in}
 use Rattle.peak_laws.proofs.Conserved.{head_plus, head_some, head_self}
 
 -- ---- nodes one after the other
@@ -34,9 +34,9 @@ loops_append [] ys = refl
 loops_append (s ∷ xs) ys =
     ap (λ ls. loops_at s.content ++ ls) (loops_append xs ys) ∙ sym (append_assoc (loops_at s.content) (loop_copies xs) (loop_copies ys))
 
-rings_append : (fs gs : List Fee) → rings (fs ++ gs) ≡ rings fs ++ rings gs
-rings_append [] gs = refl
-rings_append (f ∷ fs) gs = ap (λ ls. f.ring ∷ ls) (rings_append fs gs)
+copies_of_loops_append : (fs gs : List CostedLoop) → copies_of_loops (fs ++ gs) ≡ copies_of_loops fs ++ copies_of_loops gs
+copies_of_loops_append [] gs = refl
+copies_of_loops_append (f ∷ fs) gs = ap (λ ls. f.loop_copy ∷ ls) (copies_of_loops_append fs gs)
 
 -- the cost of each node's block
 abbrev pub site_costs : Costs → List Site → List ℕ
@@ -57,7 +57,7 @@ caps_append (s ∷ xs) ys = ap (λ cs. s.node.cap ∷ cs) (caps_append xs ys)
 -- the nodes from n on are those of the part, which is entered z times
 pub record Draws (t : Costs) (z n : ℕ) (xs : List Site) (p : Part) (k : Targets) : Type 0 where
   pub edges : edges_from n xs ≡ part_edges p n k
-  pub loops : loop_copies xs ≡ rings (fees p n)
+  pub loops : loop_copies xs ≡ copies_of_loops (costed_loops p n)
   pub nodes : length xs ≡ size p
   pub costs : site_costs t xs ≡ node_costs p
   pub caps : site_caps xs ≡ node_caps p z
@@ -69,14 +69,14 @@ draws_then : (t : Costs) (z n : ℕ) (xs ys : List Site) (p q : Part) (k : Targe
 draws_then t z n xs ys p q k a b =
     record {
       edges = edges_append n (n + size p) xs ys (omega (arith, a.nodes)) ∙ (λ i. a.edges i ++ b.edges i);
-      loops = loops_append xs ys ∙ (λ i. a.loops i ++ b.loops i) ∙ sym (rings_append (fees p n) (fees q (n + size p)));
+      loops = loops_append xs ys ∙ (λ i. a.loops i ++ b.loops i) ∙ sym (copies_of_loops_append (costed_loops p n) (costed_loops q (n + size p)));
       nodes = omega (arith, length-append xs ys, a.nodes, b.nodes);
       costs = costs_append t xs ys ∙ (λ i. a.costs i ++ b.costs i);
       caps = caps_append xs ys ∙ (λ i. a.caps i ++ b.caps i);
     }
 
-joined_size : (p q : Part) → size (joined p q) ≡ size p + size q
-joined_size p q = by_first (is_nothing p) (is_nothing q) refl refl
+sequence_size : (p q : Part) → size (sequence p q) ≡ size p + size q
+sequence_size p q = by_first (is_nothing p) (is_nothing q) refl refl
   where
     empty : (p : Part) → is_nothing p ≡ true → size p ≡ 0
     empty Nothing h = refl
@@ -109,8 +109,8 @@ append_none : (xs : List Site) → xs ++ [] ≡ xs
 append_none [] = refl
 append_none (x ∷ xs) = ap (λ ys. x ∷ ys) (append_none xs)
 
-draws_joined : (t : Costs) (z n : ℕ) (xs ys : List Site) (p q : Part) (k : Targets) → Draws t z n xs p (with_next k (head (size q) (n + size p) k.next)) → Draws t z (n + size p) ys q k → Draws t z n (xs ++ ys) (joined p q) k
-draws_joined t z n xs ys p q k a b = by_first (is_nothing p) (is_nothing q) refl refl
+draws_sequence : (t : Costs) (z n : ℕ) (xs ys : List Site) (p q : Part) (k : Targets) → Draws t z n xs p (with_next k (head (size q) (n + size p) k.next)) → Draws t z (n + size p) ys q k → Draws t z n (xs ++ ys) (sequence p q) k
+draws_sequence t z n xs ys p q k a b = by_first (is_nothing p) (is_nothing q) refl refl
   where
     by_first : (x y : Bool) → is_nothing p ≡ x → is_nothing q ≡ y → Draws t z n (xs ++ ys) (if x then q else (if y then p else Then p q)) k
     by_first true y h g =
@@ -143,7 +143,7 @@ draws_choice t w e b n m r xs ys p q k mp rq a c =
     let rest = edges_append (n + 1) (n + 1 + size p) xs ys (omega (arith, a.nodes)) ∙ (λ i. a.edges i ++ d.edges i) in
     record {
       edges = λ i. leaves n True (head (mp i) (n + 1) k.next) ∷ (leaves n False (head (rq i) (n + 1 + mp i) k.next) ∷ rest i);
-      loops = loops_append xs ys ∙ (λ i. a.loops i ++ d.loops i) ∙ sym (rings_append (fees p (n + 1)) (fees q (n + 1 + size p)));
+      loops = loops_append xs ys ∙ (λ i. a.loops i ++ d.loops i) ∙ sym (copies_of_loops_append (costed_loops p (n + 1)) (costed_loops q (n + 1 + size p)));
       nodes = omega (arith, length-append xs ys, a.nodes, d.nodes);
       costs = ap (λ cs. block_cost t b ∷ cs) (costs_append t xs ys ∙ (λ i. a.costs i ++ d.costs i));
       caps = ap (λ cs. w.scale ∷ cs) (caps_append xs ys ∙ (λ i. a.caps i ++ d.caps i));
@@ -157,13 +157,13 @@ pub record DrawsStep (t : Costs) (z n : ℕ) (xs : List Site) (s : Option ℕ) :
   pub costs : site_costs t xs ≡ step_costs s
   pub caps : site_caps xs ≡ step_caps s z
 
-draws_loop : (t : Costs) (w : Position) (z n spare : ℕ) (s : Option ℕ) (e : Expr) (b : BlockName) (to : ℕ) (ring : LoopCopy) (ys xs : List Site) (p : Part) (k : Targets) → ring ≡ while_ring p n spare s → to ≡ head (size p) (n + 1 + step_size s) (head (step_size s) (n + 1) n) → w.scale ≡ z * (spare + 1 + 1) → DrawsStep t (z * (spare + 1)) n ys s → Draws t (z * (spare + 1)) (n + 1 + step_size s) xs p (body_of k (head (step_size s) (n + 1) n)) → Draws t z n (asks w (Some ring) e b to k.next ∷ (ys ++ xs)) (While (block_cost t b) spare s p) k
-draws_loop t w z n spare s e b to ring ys xs p k ring_is to_is scale_is step a =
+draws_loop : (t : Costs) (w : Position) (z n spare : ℕ) (s : Option ℕ) (e : Expr) (b : BlockName) (to : ℕ) (loop_copy : LoopCopy) (ys xs : List Site) (p : Part) (k : Targets) → loop_copy ≡ while_copy p n spare s → to ≡ head (size p) (n + 1 + step_size s) (head (step_size s) (n + 1) n) → w.scale ≡ z * (spare + 1 + 1) → DrawsStep t (z * (spare + 1)) n ys s → Draws t (z * (spare + 1)) (n + 1 + step_size s) xs p (body_of k (head (step_size s) (n + 1) n)) → Draws t z n (asks w (Some loop_copy) e b to k.next ∷ (ys ++ xs)) (While (block_cost t b) spare s p) k
+draws_loop t w z n spare s e b to loop_copy ys xs p k loop_copy_is to_is scale_is step a =
     let rest = edges_append (n + 1) (n + 1 + step_size s) ys xs (omega (arith, step.nodes)) ∙ (λ i. step.edges i ++ a.edges i) in
     let more = loops_append ys xs ∙ (λ i. step.loops i ++ a.loops i) in
     record {
       edges = λ i. leaves n True (to_is i) ∷ (leaves n False k.next ∷ rest i);
-      loops = λ i. ring_is i ∷ more i;
+      loops = λ i. loop_copy_is i ∷ more i;
       nodes = omega (arith, length-append ys xs, step.nodes, a.nodes);
       costs = ap (λ cs. block_cost t b ∷ cs) (costs_append t ys xs ∙ (λ i. step.costs i ++ a.costs i));
       caps = λ i. scale_is i ∷ (caps_append ys xs ∙ (λ j. step.caps j ++ a.caps j)) i;
@@ -190,7 +190,7 @@ draws_do t w l e b n m xs p k some mp a =
     let last = asks (times_as_often w l) (Some (loop_at n (n + m + 1) (n + m) l true)) e b n k.next ∷ [] in
     record {
       edges = edges_append n (n + size p) xs last (omega (arith, a.nodes)) ∙ (λ i. d.edges i ++ (leaves (n + size p) True (to i) ∷ (leaves (n + size p) False k.next ∷ [])));
-      loops = loops_append xs last ∙ (λ i. d.loops i ++ (loop_at n (n + mp i + 1) (n + mp i) (bound_is i) true ∷ [])) ∙ sym (rings_append (fees p n) (fee (do_ring p n (l - 1)) _ ∷ []));
+      loops = loops_append xs last ∙ (λ i. d.loops i ++ (loop_at n (n + mp i + 1) (n + mp i) (bound_is i) true ∷ [])) ∙ sym (copies_of_loops_append (costed_loops p n) (costed_loop (do_copy p n (l - 1)) _ ∷ []));
       nodes = omega (arith, length-append xs last, a.nodes);
       costs = costs_append t xs last ∙ ap (λ cs. cs ++ (block_cost t b ∷ [])) a.costs;
       caps = caps_append xs last ∙ (λ i. d.caps i ++ ((w.scale * bound_is i) ∷ []));
@@ -229,11 +229,11 @@ draws_call t w (Some c) (Some q) tg es b n k h =
 
 -- ---- lists
 
-pending_size : (ss : List Stmt) (c : ℕ) (n : ℕ) → n + size (pending (is_run ss) c) ≡ past ss n
-pending_size [] c n = omega arith
-pending_size (s ∷ ss) c n = refl
+pending_block_size : (ss : List Stmt) (c : ℕ) (n : ℕ) → n + size (pending_block (is_run ss) c) ≡ past ss n
+pending_block_size [] c n = omega arith
+pending_block_size (s ∷ ss) c n = refl
 
-past_is : (ss : List Stmt) (b : ℕ) → past ss b ≡ past_run (is_run ss) b
+past_is : (ss : List Stmt) (b : ℕ) → past ss b ≡ block_past_run (is_run ss) b
 past_is [] b = refl
 past_is (s ∷ ss) b = refl
 
@@ -241,21 +241,21 @@ run_is : (ss : List Stmt) (st : Stmt) → is_run (ss ++ st ∷ []) ≡ true
 run_is [] st = refl
 run_is (s ∷ ss) st = refl
 
-draws_pending : (t : Costs) (w : Position) (ss : List Stmt) (b : BlockName) (n to : ℕ) (k : Targets) → k.next ≡ to → Draws t w.scale n (flush w ss b to) (pending (is_run ss) (block_cost t b)) k
+draws_pending : (t : Costs) (w : Position) (ss : List Stmt) (b : BlockName) (n to : ℕ) (k : Targets) → k.next ≡ to → Draws t w.scale n (flush w ss b to) (pending_block (is_run ss) (block_cost t b)) k
 draws_pending t w [] b n to k is = draws_nothing t w.scale n k
 draws_pending t w (s ∷ ss) b n to k is = draws_one t w (Simple (s ∷ ss)) (Some b) n to ByEnd k refl refl is
 
 -- a block of simple statements, a statement that is not simple, and the rest
-draws_plain : (t : Costs) (w : Position) (ss : List Stmt) (b : BlockName) (n z r : ℕ) (xs ys : List Site) (p q : Part) (k : Targets) → z ≡ size p → r ≡ size q → Draws t w.scale (past ss n) xs p (with_next k (head r (past ss n + z) k.next)) → Draws t w.scale (past ss n + z) ys q k → Draws t w.scale n (flush w ss b (head z (past ss n) (head r (past ss n + z) k.next)) ++ (xs ++ ys)) (joined (pending (is_run ss) (block_cost t b)) (joined p q)) k
+draws_plain : (t : Costs) (w : Position) (ss : List Stmt) (b : BlockName) (n z r : ℕ) (xs ys : List Site) (p q : Part) (k : Targets) → z ≡ size p → r ≡ size q → Draws t w.scale (past ss n) xs p (with_next k (head r (past ss n + z) k.next)) → Draws t w.scale (past ss n + z) ys q k → Draws t w.scale n (flush w ss b (head z (past ss n) (head r (past ss n + z) k.next)) ++ (xs ++ ys)) (sequence (pending_block (is_run ss) (block_cost t b)) (sequence p q)) k
 draws_plain t w ss b n z r xs ys p q k zp rq a c =
     let n1 = past ss n in
-    let first = pending (is_run ss) (block_cost t b) in
-    let begin : n1 ≡ n + size first = sym (pending_size ss (block_cost t b) n) in
+    let first = pending_block (is_run ss) (block_cost t b) in
+    let begin : n1 ≡ n + size first = sym (pending_block_size ss (block_cost t b) n) in
     let d : Draws t w.scale n1 xs p (with_next k (head (size q) (n1 + size p) k.next)) = subst (λ i. Draws t w.scale n1 xs p (with_next k i)) (λ i. head (rq i) (n1 + zp i) k.next) a in
     let e : Draws t w.scale (n1 + size p) ys q k = subst (λ i. Draws t w.scale (n1 + i) ys q k) zp c in
-    let rest : Draws t w.scale n1 (xs ++ ys) (joined p q) k = draws_joined t w.scale n1 xs ys p q k d e in
-    let to : head (size (joined p q)) (n + size first) k.next ≡ head z n1 (head r (n1 + z) k.next) = (λ i. head (joined_size p q i) (pending_size ss (block_cost t b) n i) k.next) ∙ head_plus (size p) (size q) n1 k.next ∙ sym (λ i. head (zp i) n1 (head (rq i) (n1 + zp i) k.next)) in
-    draws_joined t w.scale n (flush w ss b (head z n1 (head r (n1 + z) k.next))) (xs ++ ys) first (joined p q) k (draws_pending t w ss b n (head z n1 (head r (n1 + z) k.next)) (with_next k (head (size (joined p q)) (n + size first) k.next)) to) (subst (λ i. Draws t w.scale i (xs ++ ys) (joined p q) k) begin rest)
+    let rest : Draws t w.scale n1 (xs ++ ys) (sequence p q) k = draws_sequence t w.scale n1 xs ys p q k d e in
+    let to : head (size (sequence p q)) (n + size first) k.next ≡ head z n1 (head r (n1 + z) k.next) = (λ i. head (sequence_size p q i) (pending_block_size ss (block_cost t b) n i) k.next) ∙ head_plus (size p) (size q) n1 k.next ∙ sym (λ i. head (zp i) n1 (head (rq i) (n1 + zp i) k.next)) in
+    draws_sequence t w.scale n (flush w ss b (head z n1 (head r (n1 + z) k.next))) (xs ++ ys) first (sequence p q) k (draws_pending t w ss b n (head z n1 (head r (n1 + z) k.next)) (with_next k (head (size (sequence p q)) (n + size first) k.next)) to) (subst (λ i. Draws t w.scale i (xs ++ ys) (sequence p q) k) begin rest)
 
 draws_choose : (t : Costs) (z n : ℕ) (xs ys : List Site) (p q : Part) (k : Targets) (c : Bool) → (c ≡ true → Draws t z n xs p k) → (c ≡ false → Draws t z n ys q k) → Draws t z n (if c then xs else ys) (if c then p else q) k
 draws_choose t z n xs ys p q k true f g = f refl
@@ -267,10 +267,10 @@ sole_row c sort end_of-Stmt h = absurd h
 sole_row c sort (more_of-Stmt s rest) h = (h.1.0, h.1.1)
 
 -- the loop of a `for` after its initialiser
-draws_after : (t : Costs) (z n : ℕ) (xs ys : List Site) (p q : Part) (r : ℕ) (k : Targets) → 0 < size q → r ≡ size p → Draws t z n xs p (with_next k (n + r)) → Draws t z (n + r) ys q k → Draws t z n (xs ++ ys) (joined p q) k
+draws_after : (t : Costs) (z n : ℕ) (xs ys : List Site) (p q : Part) (r : ℕ) (k : Targets) → 0 < size q → r ≡ size p → Draws t z n xs p (with_next k (n + r)) → Draws t z (n + r) ys q k → Draws t z n (xs ++ ys) (sequence p q) k
 draws_after t z n xs ys p q r k some zp a b =
     let to : n + r ≡ head (size q) (n + size p) k.next = ap (λ i. n + i) zp ∙ sym (head_some (size q) (n + size p) k.next some) in
-    draws_joined t z n xs ys p q k (subst (λ i. Draws t z n xs p (with_next k i)) to a) (subst (λ i. Draws t z (n + i) ys q k) zp b)
+    draws_sequence t z n xs ys p q k (subst (λ i. Draws t z n xs p (with_next k i)) to a) (subst (λ i. Draws t z (n + i) ys q k) zp b)
 
 no_truth : IsTrue false → ⊥
 no_truth h = cc
@@ -333,7 +333,7 @@ module _ (t : Costs) (cs : List Copy) (qs : List Part) (c : Context) (sizes : Ha
         let b2 = past ss b + blocks st false in
         draws_choose t w.scale n _ _ _ _ k (is_simple st)
         (λ is. subst (λ run. Draws t w.scale n (row_flow cs w rest b n (ss ++ st ∷ []) k) (row_part qs (costs_in t w.func) rest b run) k) (run_is ss st) (row_draws w looped rest b n (ss ++ st ∷ []) k h.1))
-        (λ is. let one = st_draws w looped st (past ss b) n1 kn is h.0 in let two = row_draws w looped rest b2 n2 [] k h.1 in subst (λ i. Draws t w.scale n (flush w ss (block w.func b) (head z n1 (head r n2 k.next)) ++ (flow cs w st (past ss b) n1 kn ++ row_flow cs w rest b2 n2 [] k)) (joined (pending (is_run ss) (costs_in t w.func b)) (joined (part qs (costs_in t w.func) st i) (row_part qs (costs_in t w.func) rest (i + blocks st false) false))) k) (past_is ss b) (draws_plain t w ss (block w.func b) n z r (flow cs w st (past ss b) n1 kn) (row_flow cs w rest b2 n2 [] k) _ _ k (sym (flow_length cs w st (past ss b) n1 kn sizes is) ∙ one.nodes) (sym (row_length cs w rest b2 n2 [] k sizes) ∙ two.nodes) one two))
+        (λ is. let one = st_draws w looped st (past ss b) n1 kn is h.0 in let two = row_draws w looped rest b2 n2 [] k h.1 in subst (λ i. Draws t w.scale n (flush w ss (block w.func b) (head z n1 (head r n2 k.next)) ++ (flow cs w st (past ss b) n1 kn ++ row_flow cs w rest b2 n2 [] k)) (sequence (pending_block (is_run ss) (costs_in t w.func b)) (sequence (part qs (costs_in t w.func) st i) (row_part qs (costs_in t w.func) rest (i + blocks st false) false))) k) (past_is ss b) (draws_plain t w ss (block w.func b) n z r (flow cs w st (past ss b) n1 kn) (row_flow cs w rest b2 n2 [] k) _ _ k (sym (flow_length cs w st (past ss b) n1 kn sizes is) ∙ one.nodes) (sym (row_length cs w rest b2 n2 [] k sizes) ∙ two.nodes) one two))
 
     pub held_draws : (w : Position) (sort : Stmt → Bool) (x : Held-Stmt-For-1) (b n : ℕ) (k : Targets) → WellFormedHeld c sort x → Draws t w.scale n (held_flow cs w x b n k) (held_part qs (costs_in t w.func) x b) k
     held_draws w sort None' b n k h = draws_nothing t w.scale n k

@@ -28,19 +28,19 @@ use Rattle.bound_cert.specs.DualSteps.{reduced_cost_steps, edge_steps, edges_ste
 use Rattle.ipet_rows.specs.FlowRows.{one_if, terms, node_factor, loop_factor, entry_row, node_rows, loop_row, loop_rows, flow_rows}
 use Rattle.ipet_rows.specs.CapsBound.{caps_bound, AreSmall}
 use Rattle.ipet_rows.proofs.Spanned.{bound_within}
-use Rattle.peak_laws.specs.Parts.{Part, Nothing, Block, Then, Choice, While, Do, Body, size, step_size, step_costs, dear, turn, potentials, Fee, fee, do_ring, fees, most, turns, taken, paid}
-use Rattle.peak_laws.specs.Hefts.{heft, loop_count, reach}
+use Rattle.peak_laws.specs.Parts.{Part, Nothing, Block, Then, Choice, While, Do, Body, size, step_size, step_costs, dearest_ways, turn, potentials, CostedLoop, costed_loop, do_copy, costed_loops, turn_limit, turns, turn_refund, entry_charge}
+use Rattle.peak_laws.specs.Magnitudes.{cap_cost, loop_count, excess}
 use Rattle.peak_laws.specs.Flows.{edge_costs}
-use Rattle.peak_laws.specs.Answers.{rings, turn_costs, at_end, peak_value, peak_multipliers, FromZero, IsPeakDual}
+use Rattle.peak_laws.specs.Answers.{copies_of_loops, turn_costs, at_end, peak_value, peak_multipliers, FromZero, IsPeakDual}
 use Rattle.peak_laws.specs.ProgramParts.{program_part}
 use Rattle.peak_laws.proofs.Places.{Every, potentials_length}
-use Rattle.peak_laws.proofs.Hefts.{Below, entry_most, AtMost, bounded, dues, reach_most}
+use Rattle.peak_laws.proofs.Magnitudes.{Below, entry_most, AtMost, bounded, dues, excess_most}
 use Rattle.peak_laws.proofs.Reduced.{looked_up, below_none, times_minus, Known}
 use Rattle.peak_laws.proofs.Shapes.{Shaped, known}
 use Rattle.peak_laws.proofs.Multiplied.{potential_at, cost_at, all_covered, node_rows_length, map_length, reduced_most, nothing_more, costs_from, rights_are}
 use Rattle.peak_laws.proofs.Programs.{program_shaped}
 use Rattle.peak_laws.proofs.Conserved.{edges_length}
-use Rattle.peak_laws.proofs.Ranges.{heft_within}
+use Rattle.peak_laws.proofs.Ranges.{cap_cost_within}
 use Rattle.peak_laws.proofs.DualRange.{mag, mags, mags_append, Fit, fit_of, taking_fits, adding_fits, row_mag, mag_most, minus_mag}
 
 -- ---- how large the factors of an edge are together
@@ -65,15 +65,15 @@ loop_mag y m true false = product_mag y 1 (m * 0) y 0 (omega arith) (omega arith
 loop_mag y m false true = product_mag y 0 (m * 1) 0 (m * y) (omega arith) (omega arith)
 loop_mag y m false false = product_mag y 0 (m * 0) 0 0 (omega arith) (omega arith)
 
-loop_mags : (g : List Site) (es : List Edge) (fs : List Fee) (j : ℕ) (e : Edge) → slice_get es j ≡ Some e → Every (Known g es) fs → mags (weighted_factors (map (loop_row es) (map (loop_of g) (rings fs))) (map pos (turn_costs fs)) j) ≤ taken fs e + paid fs e
+loop_mags : (g : List Site) (es : List Edge) (fs : List CostedLoop) (j : ℕ) (e : Edge) → slice_get es j ≡ Some e → Every (Known g es) fs → mags (weighted_factors (map (loop_row es) (map (loop_of g) (copies_of_loops fs))) (map pos (turn_costs fs)) j) ≤ turn_refund fs e + entry_charge fs e
 loop_mags g es [] j e h known = omega arith
 loop_mags g es (f ∷ fs) j e h known =
-    let l = loop_of g f.ring in
+    let l = loop_of g f.loop_copy in
     let z : 0 + j ≡ j = omega arith in
-    let turn : (j == l.turn) ≡ turns f.ring e = subst (λ n. (n == l.turn) ≡ turns f.ring e) z ((known.0).turn j e h) in
-    let into : is_among j l.into ≡ enters f.ring e = subst (λ n. is_among n l.into ≡ enters f.ring e) z ((known.0).into j e h) in
-    let same : mag (pos f.turn *ℤ loop_factor l j e) ≡ mag (pos f.turn *ℤ (one_if (turns f.ring e) -ℤ pos (most f.ring) *ℤ one_if (enters f.ring e))) = λ i. mag (pos f.turn *ℤ (one_if (turn i) -ℤ pos (most f.ring) *ℤ one_if (into i))) in
-    omega (arith, mags_append (weighted_terms (pos f.turn) (terms (loop_factor l) 0 es) j) (weighted_factors (map (loop_row es) (map (loop_of g) (rings fs))) (map pos (turn_costs fs)) j), row_mag (pos f.turn) (loop_factor l) es j e h, same, loop_mag f.turn (most f.ring) (turns f.ring e) (enters f.ring e), loop_mags g es fs j e h known.1)
+    let turn : (j == l.turn) ≡ turns f.loop_copy e = subst (λ n. (n == l.turn) ≡ turns f.loop_copy e) z ((known.0).turn j e h) in
+    let into : is_among j l.into ≡ enters f.loop_copy e = subst (λ n. is_among n l.into ≡ enters f.loop_copy e) z ((known.0).into j e h) in
+    let same : mag (pos f.turn *ℤ loop_factor l j e) ≡ mag (pos f.turn *ℤ (one_if (turns f.loop_copy e) -ℤ pos (turn_limit f.loop_copy) *ℤ one_if (enters f.loop_copy e))) = λ i. mag (pos f.turn *ℤ (one_if (turn i) -ℤ pos (turn_limit f.loop_copy) *ℤ one_if (into i))) in
+    omega (arith, mags_append (weighted_terms (pos f.turn) (terms (loop_factor l) 0 es) j) (weighted_factors (map (loop_row es) (map (loop_of g) (copies_of_loops fs))) (map pos (turn_costs fs)) j), row_mag (pos f.turn) (loop_factor l) es j e h, same, loop_mag f.turn (turn_limit f.loop_copy) (turns f.loop_copy e) (enters f.loop_copy e), loop_mags g es fs j e h known.1)
 
 mags_more : (rows more : List Row) (ys zs : List ℤ) (j : ℕ) → length rows ≡ length ys → mags (weighted_factors (rows ++ more) (ys ++ zs) j) ≡ mags (weighted_factors rows ys j) + mags (weighted_factors more zs j)
 mags_more [] more [] zs j h = omega arith
@@ -89,7 +89,7 @@ entry_mag v j = by_test (0 == j)
     by_test true = omega arith
     by_test false = omega arith
 
-factors_mag : (t : Costs) (g : List Site) (q : Part) (j : ℕ) (e : Edge) → Shaped t g q → slice_get (edges g) j ≡ Some e → mags (weighted_factors (flow_rows g) (peak_multipliers q) j) ≤ peak_value q + ((potential_at q e.from + potential_at q e.to) + (taken (fees q 2) e + paid (fees q 2) e))
+factors_mag : (t : Costs) (g : List Site) (q : Part) (j : ℕ) (e : Edge) → Shaped t g q → slice_get (edges g) j ≡ Some e → mags (weighted_factors (flow_rows g) (peak_multipliers q) j) ≤ peak_value q + ((potential_at q e.from + potential_at q e.to) + (turn_refund (costed_loops q 2) e + entry_charge (costed_loops q 2) e))
 factors_mag t g q j e h is =
     let es = edges g in
     let ps = potentials q at_end in
@@ -97,10 +97,10 @@ factors_mag t g q j e h is =
     let ns = node_rows es 2 (length g - 2) in
     let ls = loop_rows es (loops g) in
     let ys = map pos ps in
-    let zs = map pos (turn_costs (fees q 2)) in
+    let zs = map pos (turn_costs (costed_loops q 2)) in
     let long : length ns ≡ length ys = omega (arith, node_rows_length es 2 (length g - 2), many, map_length ps) in
     let nodes : mags (weighted_factors ns ys j) ≤ potential_at q e.from + potential_at q e.to = subst (λ k. mags (weighted_factors (node_rows es 2 k) ys j) ≤ potential_at q e.from + potential_at q e.to) (sym many) (node_mags es 2 ps j e is) in
-    let turned : mags (weighted_factors ls zs j) ≤ taken (fees q 2) e + paid (fees q 2) e = subst (λ cs. mags (weighted_factors (loop_rows es (map (loop_of g) cs)) zs j) ≤ taken (fees q 2) e + paid (fees q 2) e) (sym h.loops_are) (loop_mags g es (fees q 2) j e is (known t g q h)) in
+    let turned : mags (weighted_factors ls zs j) ≤ turn_refund (costed_loops q 2) e + entry_charge (costed_loops q 2) e = subst (λ cs. mags (weighted_factors (loop_rows es (map (loop_of g) cs)) zs j) ≤ turn_refund (costed_loops q 2) e + entry_charge (costed_loops q 2) e) (sym h.loops_are) (loop_mags g es (costed_loops q 2) j e is (known t g q h)) in
     omega (arith, mags_append (weighted_terms (pos (peak_value q)) entry_row.terms j) (weighted_factors (ns ++ ls) (ys ++ zs) j), mags_more ns ls ys zs j long, entry_mag (peak_value q) j, nodes, turned)
 
 -- ---- numbers
@@ -113,41 +113,41 @@ looked_most n x (p ∷ ps) v h = by_test (v == n) refl (looked_most (n + 1) x ps
     by_test true is rest = omega (arith, h.0, below_none (n + 1) ps v (omega (arith, eqb-true v n is)))
     by_test false is rest = omega (arith, rest)
 
-taken_most : (x : ℕ) (fs : List Fee) (e : Edge) → Every (λ f. f.turn ≤ x) fs → taken fs e ≤ length fs * x
-taken_most x [] e h = omega arith
-taken_most x (f ∷ fs) e h = omega (arith, by_test (turns f.ring e), h.0, taken_most x fs e h.1)
+turn_refund_most : (x : ℕ) (fs : List CostedLoop) (e : Edge) → Every (λ f. f.turn ≤ x) fs → turn_refund fs e ≤ length fs * x
+turn_refund_most x [] e h = omega arith
+turn_refund_most x (f ∷ fs) e h = omega (arith, by_test (turns f.loop_copy e), h.0, turn_refund_most x fs e h.1)
   where
     by_test : (b : Bool) → (if b then f.turn else 0) ≤ f.turn
     by_test true = omega arith
     by_test false = omega arith
 
-fees_length : (p : Part) (n : ℕ) → length (fees p n) ≡ loop_count p
-fees_length Nothing n = refl
-fees_length (Block c l) n = refl
-fees_length (Then p q) n = omega (arith, length-append (fees p n) (fees q (n + size p)), fees_length p n, fees_length q (n + size p))
-fees_length (Choice c p q) n = omega (arith, length-append (fees p (n + 1)) (fees q (n + 1 + size p)), fees_length p (n + 1), fees_length q (n + 1 + size p))
-fees_length (While c m s p) n = omega (arith, fees_length p (n + 1 + step_size s))
-fees_length (Do c m p) n = omega (arith, length-append (fees p n) (fee (do_ring p n m) (turn c None (dear p)) ∷ []), fees_length p n)
-fees_length (Body p) n = fees_length p n
+costed_loops_length : (p : Part) (n : ℕ) → length (costed_loops p n) ≡ loop_count p
+costed_loops_length Nothing n = refl
+costed_loops_length (Block c l) n = refl
+costed_loops_length (Then p q) n = omega (arith, length-append (costed_loops p n) (costed_loops q (n + size p)), costed_loops_length p n, costed_loops_length q (n + size p))
+costed_loops_length (Choice c p q) n = omega (arith, length-append (costed_loops p (n + 1)) (costed_loops q (n + 1 + size p)), costed_loops_length p (n + 1), costed_loops_length q (n + 1 + size p))
+costed_loops_length (While c m s p) n = omega (arith, costed_loops_length p (n + 1 + step_size s))
+costed_loops_length (Do c m p) n = omega (arith, length-append (costed_loops p n) (costed_loop (do_copy p n m) (turn c None (dearest_ways p)) ∷ []), costed_loops_length p n)
+costed_loops_length (Body p) n = costed_loops_length p n
 
 nothing_ahead : Below at_end 0
 nothing_ahead = record { next = omega arith; breaks = omega arith; continues = omega arith; returns = omega arith }
 
 -- a part of so little heft and so few loops that all numbers stay in i128
 pub record IsSmall (q : Part) : Type 0 where
-  pub heft : heft q ≤ 2 ^ 97
+  pub cap_cost : cap_cost q ≤ 2 ^ 97
   pub loops : loop_count q ≤ 2048
 
 small_factors : (t : Costs) (g : List Site) (q : Part) (j : ℕ) (e : Edge) → Shaped t g q → IsSmall q → slice_get (edges g) j ≡ Some e → cost_at q e.from + mags (weighted_factors (flow_rows g) (peak_multipliers q) j) < 2 ^ 127
 small_factors t g q j e h small is =
     let cover = all_covered q j e (ap (λ es. slice_get es j) (sym h.edges_are) ∙ is) in
-    let value : peak_value q ≤ heft q = omega (arith, entry_most q at_end 0 nothing_ahead) in
-    let from : potential_at q e.from ≤ reach q + 0 = looked_most 2 (reach q + 0) (potentials q at_end) e.from (bounded q at_end 0 nothing_ahead) in
-    let due = taken_most (heft q) (fees q 2) e (dues q 2) in
-    let many = ap (λ n. n * heft q) (fees_length q 2) in
-    let all : loop_count q * heft q ≤ 2048 * 2 ^ 97 = omega (arith, mul-le-mul_left (loop_count q) small.heft, small.loops) in
+    let value : peak_value q ≤ cap_cost q = omega (arith, entry_most q at_end 0 nothing_ahead) in
+    let from : potential_at q e.from ≤ excess q + 0 = looked_most 2 (excess q + 0) (potentials q at_end) e.from (bounded q at_end 0 nothing_ahead) in
+    let due = turn_refund_most (cap_cost q) (costed_loops q 2) e (dues q 2) in
+    let many = ap (λ n. n * cap_cost q) (costed_loops_length q 2) in
+    let all : loop_count q * cap_cost q ≤ 2048 * 2 ^ 97 = omega (arith, mul-le-mul_left (loop_count q) small.cap_cost, small.loops) in
     let test : (if 0 == j then peak_value q else 0) ≤ peak_value q = by_test (0 == j) in
-    omega (arith, cover, value, from, due, many, all, test, reach_most q (heft q) (omega arith), small.heft, factors_mag t g q j e h is)
+    omega (arith, cover, value, from, due, many, all, test, excess_most q (cap_cost q) (omega arith), small.cap_cost, factors_mag t g q j e h is)
   where
     by_test : (b : Bool) → (if b then peak_value q else 0) ≤ peak_value q
     by_test true = omega arith
@@ -192,7 +192,7 @@ rights_fit : (t : Costs) (g : List Site) (q : Part) → Shaped t g q → peak_va
 rights_fit t g q h lt =
     let ps = potentials q at_end in
     let long : length (map pos ps) ≡ length g - 2 = omega (arith, h.nodes, potentials_length q at_end, map_length ps) in
-    let rest = nodes_zero (edges g) 2 (length g - 2) (loop_rows (edges g) (loops g)) (map pos ps) (map pos (turn_costs (fees q 2))) (loops_zero (edges g) (loops g) (map pos (turn_costs (fees q 2)))) long in
+    let rest = nodes_zero (edges g) 2 (length g - 2) (loop_rows (edges g) (loops g)) (map pos ps) (map pos (turn_costs (costed_loops q 2))) (loops_zero (edges g) (loops g) (map pos (turn_costs (costed_loops q 2)))) long in
     adding_fits (pos 0) (weighted_rights (flow_rows g) (peak_multipliers q)) (omega (arith, rest, lt))
 
 pub all_fit : (p : Program) (t : Costs) (rows : Rows) (objective : Objective) (within : CountBox) (by : Multipliers) → WellFormed p → IsSmall (program_part p t) → IsPeakDual p t rows objective within by → StaysInI128 (dual_steps rows objective within by)
@@ -200,7 +200,7 @@ all_fit p t rows objective within by formed small d =
     let g = graph p in
     let q = program_part p t in
     let h = program_shaped p t formed in
-    let value : peak_value q < 2 ^ 127 = omega (arith, entry_most q at_end 0 nothing_ahead, small.heft) in
+    let value : peak_value q < 2 ^ 127 = omega (arith, entry_most q at_end 0 nothing_ahead, small.cap_cost) in
     let rights = subst (λ rs. All Fit (addition_steps (pos 0) (weighted_rights rs by.y))) (sym d.rows_are) (subst (λ ys. All Fit (addition_steps (pos 0) (weighted_rights (flow_rows g) ys))) (sym d.multipliers) (rights_fit t g q h value)) in
     let sum : total (weighted_rights rows.rows by.y) ≡ pos (peak_value q) = (λ i. total (weighted_rights (d.rows_are i) (d.multipliers i))) ∙ rights_are t g q h in
     let room : (k : ℕ) (e : Edge) → slice_get (edges g) k ≡ Some e → cost_at q e.from + mags (weighted_factors rows.rows by.y (0 + k)) < 2 ^ 127 = λ k e at. subst (λ n. cost_at q e.from + mags (weighted_factors rows.rows by.y n) < 2 ^ 127) (more k) (subst (λ rs. cost_at q e.from + mags (weighted_factors rs by.y k) < 2 ^ 127) (sym d.rows_are) (subst (λ ys. cost_at q e.from + mags (weighted_factors (flow_rows g) ys k) < 2 ^ 127) (sym d.multipliers) (small_factors t g q k e h small at))) in
@@ -239,7 +239,7 @@ is_small p t formed caps allowed =
     let q = program_part p t in
     let h = program_shaped p t formed in
     record {
-      heft = omega (arith, heft_within t g q h, caps);
+      cap_cost = omega (arith, cap_cost_within t g q h, caps);
       loops = omega (arith, loops_few q, allowed_edges g allowed, ap length h.edges_are, edges_length q 2 (all_to 1));
     }
 

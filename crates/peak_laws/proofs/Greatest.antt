@@ -20,8 +20,8 @@ use Rattle.bound_cert.proofs.Duality.{weak_duality_lem}
 use Rattle.ipet_rows.specs.FlowRows.{node_rows, loop_rows, flow_rows}
 use Rattle.ipet_rows.specs.CapsBound.{costs_of_edges}
 use Rattle.ipet_rows.proofs.Named.{rows_below, rows_once}
-use Rattle.peak_laws.specs.Parts.{Part, potentials, Fee, fees}
-use Rattle.peak_laws.specs.Answers.{rings, turn_costs, at_end, peak_value, peak_counts, peak_multipliers, FromZero, IsPeakDual}
+use Rattle.peak_laws.specs.Parts.{Part, potentials, CostedLoop, costed_loops}
+use Rattle.peak_laws.specs.Answers.{copies_of_loops, turn_costs, at_end, peak_value, peak_counts, peak_multipliers, FromZero, IsPeakDual}
 use Rattle.ipet_rows.specs.Optimum.{MeetFlowRows, cost_of_counts, IpetOptimum}
 use Rattle.peak_laws.specs.ProgramParts.{program_part, entry_part}
 use Rattle.peak_laws.proofs.Places.{potentials_length}
@@ -36,7 +36,7 @@ fits_nodes : (es : List Edge) (n : ℕ) (ps : List ℕ) (rows : List Row) (zs : 
 fits_nodes es n [] rows zs h = h
 fits_nodes es n (p ∷ ps) rows zs h = (tt, fits_nodes es (n + 1) ps rows zs h)
 
-fits_loops : (g : List Site) (es : List Edge) (fs : List Fee) → AllZip (λ (row : Row) y. Takes row.kind y) (loop_rows es (map (loop_of g) (rings fs))) (map pos (turn_costs fs))
+fits_loops : (g : List Site) (es : List Edge) (fs : List CostedLoop) → AllZip (λ (row : Row) y. Takes row.kind y) (loop_rows es (map (loop_of g) (copies_of_loops fs))) (map pos (turn_costs fs))
 fits_loops g es [] = tt
 fits_loops g es (f ∷ fs) = (omega (arith, ints), fits_loops g es fs)
 
@@ -45,8 +45,8 @@ fits_each t g q h =
     let es = edges g in
     let ps = potentials q at_end in
     let many : length ps ≡ length g - 2 = omega (arith, h.nodes, potentials_length q at_end) in
-    let turns = subst (λ cs. AllZip (λ (row : Row) y. Takes row.kind y) (loop_rows es (map (loop_of g) cs)) (map pos (turn_costs (fees q 2)))) (sym h.loops_are) (fits_loops g es (fees q 2)) in
-    (tt, subst (λ k. AllZip (λ (row : Row) y. Takes row.kind y) (node_rows es 2 k ++ loop_rows es (loops g)) (map pos ps ++ map pos (turn_costs (fees q 2)))) many (fits_nodes es 2 ps (loop_rows es (loops g)) (map pos (turn_costs (fees q 2))) turns))
+    let turns = subst (λ cs. AllZip (λ (row : Row) y. Takes row.kind y) (loop_rows es (map (loop_of g) cs)) (map pos (turn_costs (costed_loops q 2)))) (sym h.loops_are) (fits_loops g es (costed_loops q 2)) in
+    (tt, subst (λ k. AllZip (λ (row : Row) y. Takes row.kind y) (node_rows es 2 k ++ loop_rows es (loops g)) (map pos ps ++ map pos (turn_costs (costed_loops q 2)))) many (fits_nodes es 2 ps (loop_rows es (loops g)) (map pos (turn_costs (costed_loops q 2))) turns))
 
 -- ---- no counts cost more
 

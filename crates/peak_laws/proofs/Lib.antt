@@ -12,7 +12,7 @@ pub mod Attained
 pub mod Drawn
 pub mod Programs
 pub mod Greatest
-pub mod Hefts
+pub mod Magnitudes
 pub mod Ranges
 pub mod DualRange
 pub mod DualFits

@@ -19,7 +19,7 @@ use Rattle.bound_cert.specs.Dual.{weighted_rights, weighted_terms, weighted_fact
 use Rattle.bound_cert.proofs.Columns.{total-append}
 use Rattle.ipet_rows.specs.FlowRows.{entry_row, node_rows, loop_rows, flow_rows}
 use Rattle.ipet_rows.specs.CapsBound.{costs_of_edges}
-use Rattle.peak_laws.specs.Parts.{Part, size, node_costs, potentials, part_edges, fees, paid, taken, Covers}
+use Rattle.peak_laws.specs.Parts.{Part, size, node_costs, potentials, part_edges, costed_loops, entry_charge, turn_refund, Covers}
 use Rattle.peak_laws.specs.Answers.{turn_costs, at_end, peak_value, peak_multipliers, FromZero}
 use Rattle.peak_laws.proofs.Places.{Every, Outside, potentials_length}
 use Rattle.peak_laws.proofs.Covered.{comes, covered}
@@ -36,7 +36,7 @@ cost_at q = looked_up 2 (node_costs q)
 
 abbrev pub CoversAt : Part → ℕ → Edge → Type 0
 CoversAt q j e =
-    cost_at q e.from + potential_at q e.to + paid (fees q 2) e ≤ potential_at q e.from + taken (fees q 2) e + (if 0 == j then peak_value q else 0)
+    cost_at q e.from + potential_at q e.to + entry_charge (costed_loops q 2) e ≤ potential_at q e.from + turn_refund (costed_loops q 2) e + (if 0 == j then peak_value q else 0)
 
 exits_outside : (q : Part) → Outside 2 (2 + size q) (all_to 1)
 exits_outside q = record { next = inl (omega arith); breaks = inl (omega arith); continues = inl (omega arith); returns = inl (omega arith) }
@@ -49,11 +49,11 @@ entry_covered q =
     let ps = potentials q at_end in
     omega (arith, below_none 2 (node_costs q) 0 (omega arith), comes q 2 1 at_end (potential_at q) (entry_edge q) refl (end_is q) (looked_up_agrees 2 ps))
 
-later_covered : (q : Part) (es : List Edge) (k i : ℕ) (e : Edge) → 0 < i → slice_get es k ≡ Some e → Every (Covers (cost_at q) (potential_at q) (fees q 2)) es → CoversAt q i e
+later_covered : (q : Part) (es : List Edge) (k i : ℕ) (e : Edge) → 0 < i → slice_get es k ≡ Some e → Every (Covers (cost_at q) (potential_at q) (costed_loops q 2)) es → CoversAt q i e
 later_covered q [] k i e lt is h = absurd (cc)
 later_covered q (d ∷ es) zero i e lt is h =
     let same : d ≡ e = cc in
-    let c = subst (Covers (cost_at q) (potential_at q) (fees q 2)) same h.0 in
+    let c = subst (Covers (cost_at q) (potential_at q) (costed_loops q 2)) same h.0 in
     omega (arith, c)
 later_covered q (d ∷ es) (suc k) i e lt is h = later_covered q es k i e lt is h.1
 
@@ -79,7 +79,7 @@ entry_factor v j = by_test (0 == j)
     by_test true = omega (arith, ints)
     by_test false = refl
 
-pub factors_are : (t : Costs) (g : List Site) (q : Part) (j : ℕ) (e : Edge) → Shaped t g q → slice_get (edges g) j ≡ Some e → total (weighted_factors (flow_rows g) (peak_multipliers q) j) ≡ pos (if 0 == j then peak_value q else 0) +ℤ ((pos (potential_at q e.from) -ℤ pos (potential_at q e.to)) +ℤ (pos (taken (fees q 2) e) -ℤ pos (paid (fees q 2) e)))
+pub factors_are : (t : Costs) (g : List Site) (q : Part) (j : ℕ) (e : Edge) → Shaped t g q → slice_get (edges g) j ≡ Some e → total (weighted_factors (flow_rows g) (peak_multipliers q) j) ≡ pos (if 0 == j then peak_value q else 0) +ℤ ((pos (potential_at q e.from) -ℤ pos (potential_at q e.to)) +ℤ (pos (turn_refund (costed_loops q 2) e) -ℤ pos (entry_charge (costed_loops q 2) e)))
 factors_are t g q j e h is =
     let es = edges g in
     let ps = potentials q at_end in
@@ -87,10 +87,10 @@ factors_are t g q j e h is =
     let ns = node_rows es 2 (length g - 2) in
     let ls = loop_rows es (loops g) in
     let ys = map pos ps in
-    let zs = map pos (turn_costs (fees q 2)) in
+    let zs = map pos (turn_costs (costed_loops q 2)) in
     let long : length ns ≡ length ys = omega (arith, node_rows_length es 2 (length g - 2), many, map_length ps) in
     let nodes : total (weighted_factors ns ys j) ≡ pos (potential_at q e.from) -ℤ pos (potential_at q e.to) = ap (λ k. total (weighted_factors (node_rows es 2 k) ys j)) many ∙ node_factors es 2 ps j e is in
-    let turns : total (weighted_factors ls zs j) ≡ pos (taken (fees q 2) e) -ℤ pos (paid (fees q 2) e) = ap (λ cs. total (weighted_factors (loop_rows es (map (loop_of g) cs)) zs j)) h.loops_are ∙ loop_factors g es (fees q 2) j e is (known t g q h) in
+    let turns : total (weighted_factors ls zs j) ≡ pos (turn_refund (costed_loops q 2) e) -ℤ pos (entry_charge (costed_loops q 2) e) = ap (λ cs. total (weighted_factors (loop_rows es (map (loop_of g) cs)) zs j)) h.loops_are ∙ loop_factors g es (costed_loops q 2) j e is (known t g q h) in
     total-append (weighted_terms (pos (peak_value q)) entry_row.terms j) (weighted_factors (ns ++ ls) (ys ++ zs) j) ∙ (λ i. entry_factor (peak_value q) j i +ℤ (factors_append ns ls ys zs j long ∙ (λ k. nodes k +ℤ turns k)) i)
 
 -- what is left is at most 0
@@ -147,7 +147,7 @@ rights_are t g q h =
     let ns = node_rows es 2 (length g - 2) in
     let ls = loop_rows es (loops g) in
     let ys = map pos ps in
-    let zs = map pos (turn_costs (fees q 2)) in
+    let zs = map pos (turn_costs (costed_loops q 2)) in
     let long : length ns ≡ length ys = omega (arith, node_rows_length es 2 (length g - 2), many, map_length ps) in
     let all = rights_append ns ls ys zs long in
     let nodes = node_rights es 2 (length g - 2) ys in

@@ -3,7 +3,7 @@ use Rattle.std.proofs.Common.{◌≡◌, ◌≤◌, ◌<◌, ◌⊎◌, ℕ, zer
 use Rattle.flow_laws.specs.declared.graph.Edge.{Edge}
 use Rattle.flow_laws.specs.Sites.{Targets, head, with_next, body_of}
 use Rattle.flow_laws.specs.Graphs.{all_to}
-use Rattle.peak_laws.specs.Parts.{ByEnd, ByBreak, ByContinue, ByReturn, Part, Nothing, Block, Then, Choice, While, Do, Body, from_entry, dear, at_condition, step_cost, step_size, size, step_costs, node_costs, step_potentials, potentials, step_edges, part_edges, Fee, fees}
+use Rattle.peak_laws.specs.Parts.{ByEnd, ByBreak, ByContinue, ByReturn, Part, Nothing, Block, Then, Choice, While, Do, Body, from_entry, dearest_ways, at_condition, step_cost, step_size, size, step_costs, node_costs, step_potentials, potentials, step_edges, part_edges, CostedLoop, costed_loops}
 
 -- ---- lists of edges
 
@@ -121,32 +121,32 @@ tos (Body a) n k Q i qn qb qc qr = tos a n (all_to k.next) Q i qn qn qn qn
 
 -- ---- where loops stand
 
-pub record Within (lo hi : ℕ) (f : Fee) : Type 0 where
-  pub least : lo ≤ f.ring.from
-  pub some : f.ring.from < f.ring.past
-  pub most : f.ring.past ≤ hi
-  pub after : f.ring.from ≤ f.ring.test
-  pub before : f.ring.test < f.ring.past
+pub record Within (lo hi : ℕ) (f : CostedLoop) : Type 0 where
+  pub least : lo ≤ f.loop_copy.from
+  pub some : f.loop_copy.from < f.loop_copy.past
+  pub most : f.loop_copy.past ≤ hi
+  pub after : f.loop_copy.from ≤ f.loop_copy.test
+  pub before : f.loop_copy.test < f.loop_copy.past
 
-within_wide : (lo hi a b : ℕ) (fs : List Fee) → a ≤ lo → hi ≤ b → Every (Within lo hi) fs → Every (Within a b) fs
+within_wide : (lo hi a b : ℕ) (fs : List CostedLoop) → a ≤ lo → hi ≤ b → Every (Within lo hi) fs → Every (Within a b) fs
 within_wide lo hi a b fs le ge h =
     every_of (Within lo hi) (Within a b) fs (λ f w. record { least = omega arith; some = w.some; most = omega arith; after = w.after; before = w.before }) h
 
-pub within : (a : Part) (n : ℕ) → Every (Within n (n + size a)) (fees a n)
+pub within : (a : Part) (n : ℕ) → Every (Within n (n + size a)) (costed_loops a n)
 within Nothing n = tt
 within (Block c l) n = tt
 within (Then a b) n =
     let hi = n + (size a + size b) in
-    every_append (Within n hi) (fees a n) (fees b (n + size a)) (within_wide n (n + size a) n hi (fees a n) (omega arith) (omega arith) (within a n)) (within_wide (n + size a) (n + size a + size b) n hi (fees b (n + size a)) (omega arith) (omega arith) (within b (n + size a)))
+    every_append (Within n hi) (costed_loops a n) (costed_loops b (n + size a)) (within_wide n (n + size a) n hi (costed_loops a n) (omega arith) (omega arith) (within a n)) (within_wide (n + size a) (n + size a + size b) n hi (costed_loops b (n + size a)) (omega arith) (omega arith) (within b (n + size a)))
 within (Choice c a b) n =
     let hi = n + (1 + (size a + size b)) in
-    every_append (Within n hi) (fees a (n + 1)) (fees b (n + 1 + size a)) (within_wide (n + 1) (n + 1 + size a) n hi (fees a (n + 1)) (omega arith) (omega arith) (within a (n + 1))) (within_wide (n + 1 + size a) (n + 1 + size a + size b) n hi (fees b (n + 1 + size a)) (omega arith) (omega arith) (within b (n + 1 + size a)))
+    every_append (Within n hi) (costed_loops a (n + 1)) (costed_loops b (n + 1 + size a)) (within_wide (n + 1) (n + 1 + size a) n hi (costed_loops a (n + 1)) (omega arith) (omega arith) (within a (n + 1))) (within_wide (n + 1 + size a) (n + 1 + size a + size b) n hi (costed_loops b (n + 1 + size a)) (omega arith) (omega arith) (within b (n + 1 + size a)))
 within (While c m s a) n =
     let hi = n + (1 + (step_size s + size a)) in
-    (record { least = omega arith; some = omega arith; most = omega arith; after = omega arith; before = omega arith }, within_wide (n + 1 + step_size s) (n + 1 + step_size s + size a) n hi (fees a (n + 1 + step_size s)) (omega arith) (omega arith) (within a (n + 1 + step_size s)))
+    (record { least = omega arith; some = omega arith; most = omega arith; after = omega arith; before = omega arith }, within_wide (n + 1 + step_size s) (n + 1 + step_size s + size a) n hi (costed_loops a (n + 1 + step_size s)) (omega arith) (omega arith) (within a (n + 1 + step_size s)))
 within (Do c m a) n =
     let hi = n + (size a + 1) in
-    every_append (Within n hi) (fees a n) _ (within_wide n (n + size a) n hi (fees a n) (omega arith) (omega arith) (within a n)) (record { least = omega arith; some = omega arith; most = omega arith; after = omega arith; before = omega arith }, tt)
+    every_append (Within n hi) (costed_loops a n) _ (within_wide n (n + size a) n hi (costed_loops a n) (omega arith) (omega arith) (within a n)) (record { least = omega arith; some = omega arith; most = omega arith; after = omega arith; before = omega arith }, tt)
 within (Body a) n = within a n
 
 -- ---- numbers of nodes that agree with a list
@@ -194,11 +194,11 @@ potentials_length (Then a b) t =
     omega (arith, length-append (potentials a u) (potentials b t), potentials_length a u, potentials_length b t)
 potentials_length (Choice c a b) t = omega (arith, length-append (potentials a t) (potentials b t), potentials_length a t, potentials_length b t)
 potentials_length (While c m s a) t =
-    let q = at_condition c s (dear a) (from_entry a) t in
+    let q = at_condition c s (dearest_ways a) (from_entry a) t in
     let u = body_of t (step_cost s + q) in
     omega (arith, length-append (step_potentials s q) (potentials a u), step_potentials_length s q, potentials_length a u)
 potentials_length (Do c m a) t =
-    let q = at_condition c None (dear a) (from_entry a) t in
+    let q = at_condition c None (dearest_ways a) (from_entry a) t in
     let u = body_of t q in
     omega (arith, length-append (potentials a u) (q ∷ []), potentials_length a u)
 potentials_length (Body a) t = potentials_length a (all_to t.next)

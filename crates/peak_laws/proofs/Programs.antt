@@ -21,7 +21,7 @@ use Rattle.flow_laws.proofs.Copies.{row_flows, list_length}
 use Rattle.flow_laws.proofs.Turned.{AllTested, graph_turned}
 use Rattle.ipet_rows.specs.CapsBound.{costs_of_edges}
 use Rattle.peak_laws.specs.Parts.{Part, Nothing, Body, node_costs, part_edges}
-use Rattle.peak_laws.specs.ProgramParts.{joined, pending, past_run, part, row_part, held_part, list_part, costs_in, func_part, parts, entry_part, program_part}
+use Rattle.peak_laws.specs.ProgramParts.{sequence, pending_block, block_past_run, part, row_part, held_part, list_part, costs_in, func_part, parts, entry_part, program_part}
 use Rattle.peak_laws.proofs.Places.{Agrees}
 use Rattle.peak_laws.proofs.Shapes.{entry_edge, Shaped, edge_costs_are}
 use Rattle.peak_laws.proofs.Drawn.{site_costs, site_caps, Draws, IsDrawn, Paired, ArePaired, row_draws}
@@ -37,8 +37,8 @@ pub row_parts : (qs : List Part) (cost : ℕ → ℕ) (xs : List Stmt) (b : ℕ)
 unfolding part row_part held_part shape-the_row-Stmt-0 hidden-the_row-Stmt-0 hidden
 row_parts qs cost [] b run = refl
 row_parts qs cost (x ∷ xs) b run =
-    let first = part qs cost x (past_run run b) in
-    λ i. if is_simple x then row_parts qs cost xs b true i else joined (pending run (cost b)) (joined first (row_parts qs cost xs (past_run run b + blocks x false) false i))
+    let first = part qs cost x (block_past_run run b) in
+    λ i. if is_simple x then row_parts qs cost xs b true i else sequence (pending_block run (cost b)) (sequence first (row_parts qs cost xs (block_past_run run b + blocks x false) false i))
 
 abbrev placed : ℕ → List BlockName → ℕ → Position
 placed k chain scale = record { func = k; chain = chain; scale = scale }

@@ -10,13 +10,13 @@ use Rattle.flow_laws.specs.Sites.{Site, Targets, head, with_next, body_of}
 use Rattle.flow_laws.specs.Graphs.{leaves, edges, all_to}
 use Rattle.flow_laws.specs.Paths.{cost_of_site, cap_of}
 use Rattle.ipet_rows.specs.CapsBound.{cost_at_caps, caps_bound}
-use Rattle.peak_laws.specs.Parts.{ByEnd, ByBreak, ByContinue, ByReturn, Part, Nothing, Block, Then, Choice, While, Do, Body, turn, dear, back, more, step_cost, step_size, size, step_costs, node_costs, step_edges, part_edges}
-use Rattle.peak_laws.specs.Flows.{whole, then_first, then_second, choice_first, choice_second, while_stays, while_breaks, while_full, do_stays, do_breaks, do_full, inner, body_amounts, step_flows, flows, Feasible}
-use Rattle.peak_laws.specs.Hefts.{heft, step_caps, node_caps}
+use Rattle.peak_laws.specs.Parts.{ByEnd, ByBreak, ByContinue, ByReturn, Part, Nothing, Block, Then, Choice, While, Do, Body, turn, dearest_ways, back, more, step_cost, step_size, size, step_costs, node_costs, step_edges, part_edges}
+use Rattle.peak_laws.specs.Flows.{whole, then_first, then_second, choice_first, choice_second, while_stays, while_breaks, while_full, do_stays, do_breaks, do_full, loop_body_amounts, body_amounts, step_flows, flows, Feasible}
+use Rattle.peak_laws.specs.Magnitudes.{cap_cost, step_caps, node_caps}
 use Rattle.peak_laws.proofs.Places.{Every, every_append, Agrees, step_costs_length, costs_length}
 use Rattle.peak_laws.proofs.Amounts.{shared, cost_append, then_first_feasible, then_second_feasible, choice_first_feasible, choice_second_feasible, while_feasible, do_feasible, body_feasible}
 use Rattle.peak_laws.proofs.Conserved.{then_whole, choice_whole, body_whole}
-use Rattle.peak_laws.proofs.Turned.{made_most}
+use Rattle.peak_laws.proofs.Turned.{amount_by_way_most}
 use Rattle.peak_laws.proofs.Shapes.{Shaped}
 
 -- ---- sums over nodes
@@ -90,35 +90,35 @@ caps_length (While c m s p) k =
 caps_length (Do c m p) k = omega (arith, length-append (node_caps p (k * (m + 1))) ((k * (m + 1)) ∷ []), caps_length p (k * (m + 1)))
 caps_length (Body p) k = caps_length p k
 
-step_heft : (s : Option ℕ) (k : ℕ) → cost_by (step_costs s) (step_caps s k) ≡ k * step_cost s
-step_heft None k = omega arith
-step_heft (Some d) k = omega arith
+step_cap_cost : (s : Option ℕ) (k : ℕ) → cost_by (step_costs s) (step_caps s k) ≡ k * step_cost s
+step_cap_cost None k = omega arith
+step_cap_cost (Some d) k = omega arith
 
 same_length : (p : Part) (k : ℕ) → length (node_caps p k) ≡ length (node_costs p)
 same_length p k = caps_length p k ∙ sym (costs_length p)
 
-pub heft_is : (p : Part) (k : ℕ) → cost_by (node_costs p) (node_caps p k) ≡ k * heft p
-heft_is Nothing k = omega arith
-heft_is (Block c l) k = omega arith
-heft_is (Then p q) k = omega (arith, cost_append (node_costs p) (node_costs q) (node_caps p k) (node_caps q k) (same_length p k), heft_is p k, heft_is q k)
-heft_is (Choice c p q) k = omega (arith, cost_append (node_costs p) (node_costs q) (node_caps p k) (node_caps q k) (same_length p k), heft_is p k, heft_is q k)
-heft_is (While c m s p) k =
-    omega (arith, cost_append (step_costs s) (node_costs p) (step_caps s (k * (m + 1))) (node_caps p (k * (m + 1))) (step_caps_length s (k * (m + 1)) ∙ sym (step_costs_length s)), step_heft s (k * (m + 1)), heft_is p (k * (m + 1)))
-heft_is (Do c m p) k =
-    omega (arith, cost_append (node_costs p) (c ∷ []) (node_caps p (k * (m + 1))) ((k * (m + 1)) ∷ []) (same_length p (k * (m + 1))), heft_is p (k * (m + 1)))
-heft_is (Body p) k = heft_is p k
+pub cap_cost_is : (p : Part) (k : ℕ) → cost_by (node_costs p) (node_caps p k) ≡ k * cap_cost p
+cap_cost_is Nothing k = omega arith
+cap_cost_is (Block c l) k = omega arith
+cap_cost_is (Then p q) k = omega (arith, cost_append (node_costs p) (node_costs q) (node_caps p k) (node_caps q k) (same_length p k), cap_cost_is p k, cap_cost_is q k)
+cap_cost_is (Choice c p q) k = omega (arith, cost_append (node_costs p) (node_costs q) (node_caps p k) (node_caps q k) (same_length p k), cap_cost_is p k, cap_cost_is q k)
+cap_cost_is (While c m s p) k =
+    omega (arith, cost_append (step_costs s) (node_costs p) (step_caps s (k * (m + 1))) (node_caps p (k * (m + 1))) (step_caps_length s (k * (m + 1)) ∙ sym (step_costs_length s)), step_cap_cost s (k * (m + 1)), cap_cost_is p (k * (m + 1)))
+cap_cost_is (Do c m p) k =
+    omega (arith, cost_append (node_costs p) (c ∷ []) (node_caps p (k * (m + 1))) ((k * (m + 1)) ∷ []) (same_length p (k * (m + 1))), cap_cost_is p (k * (m + 1)))
+cap_cost_is (Body p) k = cap_cost_is p k
 
 sum_is : (t : Costs) (g : List Site) (es : List Edge) → edges_sum (λ v. cost_of_site t (slice_get g v) * cap_of (slice_get g v)) es ≡ cost_at_caps t g es
 sum_is t g [] = refl
 sum_is t g (e ∷ es) = ap (λ n. cost_of_site t (slice_get g e.from) * cap_of (slice_get g e.from) + n) (sum_is t g es)
 
-pub heft_within : (t : Costs) (g : List Site) (q : Part) → Shaped t g q → heft q ≤ caps_bound t g
-heft_within t g q h =
+pub cap_cost_within : (t : Costs) (g : List Site) (q : Part) → Shaped t g q → cap_cost q ≤ caps_bound t g
+cap_cost_within t g q h =
     let f : ℕ → ℕ = λ v. cost_of_site t (slice_get g v) * cap_of (slice_get g v) in
     let one = products (λ v. cost_of_site t (slice_get g v)) (λ v. cap_of (slice_get g v)) 2 (node_costs q) (node_caps q 1) (sym (same_length q 1)) h.costs_agree h.caps_agree in
     let all = covered_nodes f q 2 (all_to 1) in
     let sum = ap (edges_sum f) h.edges_are in
-    omega (arith, one, all, sum, heft_is q 1, sum_is t g (edges g), ap (nodes_sum f 2) (costs_length q))
+    omega (arith, one, all, sum, cap_cost_is q 1, sum_is t g (edges g), ap (nodes_sum f 2) (costs_length q))
 
 -- ---- counts within caps
 
@@ -136,21 +136,21 @@ every_right x (a ∷ fs) bs h = every_right x fs bs h.1
 -- where each node can be reached at most x times, and the part is entered at most k times, each edge is taken at most x times
 abbrev pub IsWithin : Part → Type 0
 IsWithin p =
-    (k x : ℕ) (a : Targets) → Feasible (dear p) a → whole a ≤ k → Every (UpTo x) (node_caps p k) → Every (UpTo x) (flows p a)
+    (k x : ℕ) (a : Targets) → Feasible (dearest_ways p) a → whole a ≤ k → Every (UpTo x) (node_caps p k) → Every (UpTo x) (flows p a)
 
 within_while : (c m : ℕ) (s : Option ℕ) (p : Part) → IsWithin p → IsWithin (While c m s p)
 within_while c m s p hp k x a h le caps =
-    let w = dear p in
+    let w = dearest_ways p in
     let y = turn c s w in
     let stays = while_stays c m y w a.next in
     let out = while_breaks c m y w a.next in
     let r = a.returns in
     let full = while_full m w stays (out + r) in
-    let u = inner w full out r in
+    let u = loop_body_amounts w full out r in
     let shares : stays + out ≡ a.next = shared (Some ((m + 1) * y + c)) (more (m * y + c) w.breaks) a.next in
     let all : stays + (out + r) ≤ k = omega (arith, shares, le) in
     let times : (m + 1) * (stays + (out + r)) ≤ (m + 1) * k = mul-le-mul_left (m + 1) all in
-    let most : full + (out + r) ≤ k * (m + 1) = omega (arith, times, made_most (back w) ((m + 1) * stays + m * (out + r))) in
+    let most : full + (out + r) ≤ k * (m + 1) = omega (arith, times, amount_by_way_most (back w) ((m + 1) * stays + m * (out + r))) in
     let into : whole u ≤ k * (m + 1) = omega (arith, most, shared w.next w.continues full) in
     let mine : k * (m + 1 + 1) ≤ x = caps.0 in
     (omega (arith, most, mine), (omega (arith, all, mine), every_append (UpTo x) (step_flows s full) (flows p u) (of_step s full (omega (arith, most, mine))) (hp (k * (m + 1)) x u (while_feasible c m y w a h) into (every_right x (step_caps s (k * (m + 1))) (node_caps p (k * (m + 1))) caps.1))))
@@ -161,17 +161,17 @@ within_while c m s p hp k x a h le caps =
 
 within_do : (c m : ℕ) (p : Part) → IsWithin p → IsWithin (Do c m p)
 within_do c m p hp k x a h le caps =
-    let w = dear p in
+    let w = dearest_ways p in
     let y = turn c None w in
     let stays = do_stays c m y w a.next in
     let out = do_breaks c m y w a.next in
     let r = a.returns in
     let full = do_full m w (stays + (out + r)) in
-    let u = inner w (full + stays) out r in
+    let u = loop_body_amounts w (full + stays) out r in
     let shares : stays + out ≡ a.next = shared (more (m * y + c) (back w)) (more (m * y) w.breaks) a.next in
     let all : stays + (out + r) ≤ k = omega (arith, shares, le) in
     let times : m * (stays + (out + r)) ≤ m * k = mul-le-mul_left m all in
-    let most : full + (stays + (out + r)) ≤ k * (m + 1) = omega (arith, times, all, made_most (back w) (m * (stays + (out + r)))) in
+    let most : full + (stays + (out + r)) ≤ k * (m + 1) = omega (arith, times, all, amount_by_way_most (back w) (m * (stays + (out + r)))) in
     let into : whole u ≤ k * (m + 1) = omega (arith, most, shared w.next w.continues (full + stays)) in
     let mine = every_right x (node_caps p (k * (m + 1))) ((k * (m + 1)) ∷ []) caps in
     let limit : k * (m + 1) ≤ x = mine.0 in
@@ -184,16 +184,16 @@ within_caps (Block c ByBreak) k x a h le caps = (omega (arith, le, caps.0), tt)
 within_caps (Block c ByContinue) k x a h le caps = (omega (arith, le, caps.0), tt)
 within_caps (Block c ByReturn) k x a h le caps = (omega (arith, le, caps.0), tt)
 within_caps (Then p q) k x a h le caps =
-    let first = then_first (dear p) (dear q) a in
-    let second = then_second (dear p) (dear q) a in
-    let same = then_whole (dear p) (dear q) a in
-    every_append (UpTo x) (flows p first) (flows q second) (within_caps p k x first (then_first_feasible (dear p) (dear q) a h) (omega (arith, same, le)) (every_left x (node_caps p k) (node_caps q k) caps)) (within_caps q k x second (then_second_feasible (dear p) (dear q) a h) (omega (arith, same, le)) (every_right x (node_caps p k) (node_caps q k) caps))
+    let first = then_first (dearest_ways p) (dearest_ways q) a in
+    let second = then_second (dearest_ways p) (dearest_ways q) a in
+    let same = then_whole (dearest_ways p) (dearest_ways q) a in
+    every_append (UpTo x) (flows p first) (flows q second) (within_caps p k x first (then_first_feasible (dearest_ways p) (dearest_ways q) a h) (omega (arith, same, le)) (every_left x (node_caps p k) (node_caps q k) caps)) (within_caps q k x second (then_second_feasible (dearest_ways p) (dearest_ways q) a h) (omega (arith, same, le)) (every_right x (node_caps p k) (node_caps q k) caps))
 within_caps (Choice c p q) k x a h le caps =
-    let first = choice_first (dear p) (dear q) a in
-    let second = choice_second (dear p) (dear q) a in
-    let same = choice_whole (dear p) (dear q) a in
-    (omega (arith, same, le, caps.0), (omega (arith, same, le, caps.0), every_append (UpTo x) (flows p first) (flows q second) (within_caps p k x first (choice_first_feasible (dear p) (dear q) a) (omega (arith, same, le)) (every_left x (node_caps p k) (node_caps q k) caps.1)) (within_caps q k x second (choice_second_feasible c (dear p) (dear q) a h) (omega (arith, same, le)) (every_right x (node_caps p k) (node_caps q k) caps.1))))
+    let first = choice_first (dearest_ways p) (dearest_ways q) a in
+    let second = choice_second (dearest_ways p) (dearest_ways q) a in
+    let same = choice_whole (dearest_ways p) (dearest_ways q) a in
+    (omega (arith, same, le, caps.0), (omega (arith, same, le, caps.0), every_append (UpTo x) (flows p first) (flows q second) (within_caps p k x first (choice_first_feasible (dearest_ways p) (dearest_ways q) a) (omega (arith, same, le)) (every_left x (node_caps p k) (node_caps q k) caps.1)) (within_caps q k x second (choice_second_feasible c (dearest_ways p) (dearest_ways q) a h) (omega (arith, same, le)) (every_right x (node_caps p k) (node_caps q k) caps.1))))
 within_caps (While c m s p) k x a h le caps = within_while c m s p (within_caps p) k x a h le caps
 within_caps (Do c m p) k x a h le caps = within_do c m p (within_caps p) k x a h le caps
 within_caps (Body p) k x a h le caps =
-    within_caps p k x (body_amounts (dear p) a.next) (body_feasible (dear p) a h) (omega (arith, body_whole (dear p) a.next, le)) caps
+    within_caps p k x (body_amounts (dearest_ways p) a.next) (body_feasible (dearest_ways p) a h) (omega (arith, body_whole (dearest_ways p) a.next, le)) caps

@@ -14,8 +14,8 @@ use Rattle.bound_cert.specs.Dual.{weighted_terms, weighted_factors}
 use Rattle.bound_cert.proofs.Columns.{total-append}
 use Rattle.bound_cert.proofs.Products.{times-plus}
 use Rattle.ipet_rows.specs.FlowRows.{one_if, term, terms, node_factor, loop_factor, node_rows, loop_row}
-use Rattle.peak_laws.specs.Parts.{Fee, most, turns, paid, taken}
-use Rattle.peak_laws.specs.Answers.{rings, turn_costs}
+use Rattle.peak_laws.specs.Parts.{CostedLoop, turn_limit, turns, entry_charge, turn_refund}
+use Rattle.peak_laws.specs.Answers.{copies_of_loops, turn_costs}
 use Rattle.peak_laws.proofs.Places.{Every, Agrees, agrees_alike}
 use Rattle.peak_laws.proofs.Sums.{Chosen}
 
@@ -98,8 +98,8 @@ node_factors es n (p ∷ ps) j e h =
 -- ---- loops: turn costs
 
 -- each loop's turn and entries are known by their edges
-abbrev pub Known : List Site → List Edge → Fee → Type 0
-Known g es f = Chosen (loop_of g f.ring) (turns f.ring) (enters f.ring) 0 es
+abbrev pub Known : List Site → List Edge → CostedLoop → Type 0
+Known g es f = Chosen (loop_of g f.loop_copy) (turns f.loop_copy) (enters f.loop_copy) 0 es
 
 pub times_minus : (y a b : ℕ) → pos y *ℤ (pos a -ℤ pos b) ≡ pos (y * a) -ℤ pos (y * b)
 times_minus y a b =
@@ -127,11 +127,11 @@ one_loop false false y m t p =
     let v : y * 0 ≡ 0 = omega arith in
     ap (λ z. z +ℤ (pos t -ℤ pos p)) (times_minus y 0 (m * 0)) ∙ (λ i. (pos (v i) -ℤ pos (u i)) +ℤ (pos t -ℤ pos p)) ∙ omega (arith, ints)
 
-pub loop_factors : (g : List Site) (es : List Edge) (fs : List Fee) (j : ℕ) (e : Edge) → slice_get es j ≡ Some e → Every (Known g es) fs → total (weighted_factors (map (loop_row es) (map (loop_of g) (rings fs))) (map pos (turn_costs fs)) j) ≡ pos (taken fs e) -ℤ pos (paid fs e)
+pub loop_factors : (g : List Site) (es : List Edge) (fs : List CostedLoop) (j : ℕ) (e : Edge) → slice_get es j ≡ Some e → Every (Known g es) fs → total (weighted_factors (map (loop_row es) (map (loop_of g) (copies_of_loops fs))) (map pos (turn_costs fs)) j) ≡ pos (turn_refund fs e) -ℤ pos (entry_charge fs e)
 loop_factors g es [] j e h known = refl
 loop_factors g es (f ∷ fs) j e h known =
-    let l = loop_of g f.ring in
+    let l = loop_of g f.loop_copy in
     let z : 0 + j ≡ j = omega arith in
-    let turn : (j == l.turn) ≡ turns f.ring e = subst (λ n. (n == l.turn) ≡ turns f.ring e) z ((known.0).turn j e h) in
-    let into : is_among j l.into ≡ enters f.ring e = subst (λ n. is_among n l.into ≡ enters f.ring e) z ((known.0).into j e h) in
-    total-append (weighted_terms (pos f.turn) (terms (loop_factor l) 0 es) j) (weighted_factors (map (loop_row es) (map (loop_of g) (rings fs))) (map pos (turn_costs fs)) j) ∙ (λ i. row_is (pos f.turn) (loop_factor l) es j e h i +ℤ loop_factors g es fs j e h known.1 i) ∙ (λ i. pos f.turn *ℤ (one_if (turn i) -ℤ pos (most f.ring) *ℤ one_if (into i)) +ℤ (pos (taken fs e) -ℤ pos (paid fs e))) ∙ one_loop (turns f.ring e) (enters f.ring e) f.turn (most f.ring) (taken fs e) (paid fs e)
+    let turn : (j == l.turn) ≡ turns f.loop_copy e = subst (λ n. (n == l.turn) ≡ turns f.loop_copy e) z ((known.0).turn j e h) in
+    let into : is_among j l.into ≡ enters f.loop_copy e = subst (λ n. is_among n l.into ≡ enters f.loop_copy e) z ((known.0).into j e h) in
+    total-append (weighted_terms (pos f.turn) (terms (loop_factor l) 0 es) j) (weighted_factors (map (loop_row es) (map (loop_of g) (copies_of_loops fs))) (map pos (turn_costs fs)) j) ∙ (λ i. row_is (pos f.turn) (loop_factor l) es j e h i +ℤ loop_factors g es fs j e h known.1 i) ∙ (λ i. pos f.turn *ℤ (one_if (turn i) -ℤ pos (turn_limit f.loop_copy) *ℤ one_if (into i)) +ℤ (pos (turn_refund fs e) -ℤ pos (entry_charge fs e))) ∙ one_loop (turns f.loop_copy e) (enters f.loop_copy e) f.turn (turn_limit f.loop_copy) (turn_refund fs e) (entry_charge fs e)

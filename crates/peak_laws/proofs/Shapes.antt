@@ -13,10 +13,10 @@ use Rattle.flow_laws.proofs.Turned.{AllTested}
 use Rattle.flow_laws.proofs.Edges.{among_number}
 use Rattle.flow_laws.proofs.Final.{AllOf, to_list, loop_at_node, turn_is}
 use Rattle.ipet_rows.specs.CapsBound.{costs_of_edges}
-use Rattle.peak_laws.specs.Parts.{Part, Nothing, Block, Then, Choice, While, Do, Body, step_costs, step_size, size, node_costs, step_edges, part_edges, Fee, fees, is_yes, turns}
+use Rattle.peak_laws.specs.Parts.{Part, Nothing, Block, Then, Choice, While, Do, Body, step_costs, step_size, size, node_costs, step_edges, part_edges, CostedLoop, costed_loops, is_true_way, turns}
 use Rattle.peak_laws.specs.Flows.{edge_costs}
-use Rattle.peak_laws.specs.Answers.{rings}
-use Rattle.peak_laws.specs.Hefts.{node_caps}
+use Rattle.peak_laws.specs.Answers.{copies_of_loops}
+use Rattle.peak_laws.specs.Magnitudes.{node_caps}
 use Rattle.peak_laws.proofs.Places.{Every, Agrees, agrees_left, agrees_right, step_costs_length, costs_length}
 use Rattle.peak_laws.proofs.Sums.{Chosen}
 use Rattle.peak_laws.proofs.Reduced.{Known}
@@ -26,7 +26,7 @@ entry_edge q = leaves 0 Next (head (size q) 2 1)
 
 pub record Shaped (t : Costs) (g : List Site) (q : Part) : Type 0 where
   pub edges_are : edges g ≡ entry_edge q ∷ part_edges q 2 (all_to 1)
-  pub loops_are : loop_copies g ≡ rings (fees q 2)
+  pub loops_are : loop_copies g ≡ copies_of_loops (costed_loops q 2)
   pub nodes : length g ≡ 2 + size q
   pub costs_are : costs_of_edges t g (edges g) ≡ 0 ∷ edge_costs q
   pub tested : AllTested 0 g
@@ -35,7 +35,7 @@ pub record Shaped (t : Costs) (g : List Site) (q : Part) : Type 0 where
 
 -- ---- which edges turn and enter a loop
 
-same_way : (w : Way) → is_true_end w ≡ is_yes w
+same_way : (w : Way) → is_true_end w ≡ is_true_way w
 same_way Next = refl
 same_way True = refl
 same_way False = refl
@@ -47,15 +47,15 @@ and_swap false true = refl
 and_swap false false = refl
 
 same_turns : (l : LoopCopy) (e : Edge) → tree_turns l e ≡ turns l e
-same_turns l e = ap (λ b. e.from == l.test && b) (same_way e.way) ∙ and_swap (e.from == l.test) (is_yes e.way)
+same_turns l e = ap (λ b. e.from == l.test && b) (same_way e.way) ∙ and_swap (e.from == l.test) (is_true_way e.way)
 
-every_ring : (P : LoopCopy → Type 0) (fs : List Fee) → AllOf P (rings fs) → Every (λ f. P f.ring) fs
-every_ring P [] h = tt
-every_ring P (f ∷ fs) h = (h.0, every_ring P fs h.1)
+every_loop_copy : (P : LoopCopy → Type 0) (fs : List CostedLoop) → AllOf P (copies_of_loops fs) → Every (λ f. P f.loop_copy) fs
+every_loop_copy P [] h = tt
+every_loop_copy P (f ∷ fs) h = (h.0, every_loop_copy P fs h.1)
 
-pub known : (t : Costs) (g : List Site) (q : Part) → Shaped t g q → Every (Known g (edges g)) (fees q 2)
+pub known : (t : Costs) (g : List Site) (q : Part) → Shaped t g q → Every (Known g (edges g)) (costed_loops q 2)
 known t g q h =
-    every_ring Is (fees q 2) (subst (AllOf Is) h.loops_are (to_list Is g (λ i s l c has is. record {
+    every_loop_copy Is (costed_loops q 2) (subst (AllOf Is) h.loops_are (to_list Is g (λ i s l c has is. record {
       turn = λ k e at. subst (λ n. (n == first_out g l.test) ≡ turns l e) (zero_more k) (turn_is g i l c (loop_at_node g i s l c h.tested has is) k e at ∙ same_turns l e);
       into = λ k e at. subst (λ n. is_among n (positions 0 (enters l) (edges g)) ≡ enters l e) (zero_more k) (among_number (enters l) (edges g) k e at);
     })))

@@ -7,8 +7,8 @@ use Rattle.flow_laws.specs.declared.graph.Way.TheVariants.{True, False}
 use Rattle.flow_laws.specs.declared.graph.Edge.{Edge}
 use Rattle.flow_laws.specs.Sites.{LoopCopy, Targets, head, with_next, body_of}
 use Rattle.flow_laws.specs.Graphs.{leaves, enters, all_to}
-use Rattle.peak_laws.specs.Parts.{Part, Nothing, Block, Then, Choice, While, Do, Body, Ways, dear, back, turn, step_size, size, step_edges, part_edges, Fee, fee, while_ring, do_ring, fees, most, is_yes, turns, more}
-use Rattle.peak_laws.specs.Flows.{whole, then_first, then_second, choice_first, choice_second, made, while_stays, while_breaks, do_stays, do_breaks, inner, while_full, do_full, body_amounts, step_flows, flows, Feasible}
+use Rattle.peak_laws.specs.Parts.{Part, Nothing, Block, Then, Choice, While, Do, Body, Ways, dearest_ways, back, turn, step_size, size, step_edges, part_edges, CostedLoop, costed_loop, while_copy, do_copy, costed_loops, turn_limit, is_true_way, turns, more}
+use Rattle.peak_laws.specs.Flows.{whole, then_first, then_second, choice_first, choice_second, amount_by_way, while_stays, while_breaks, do_stays, do_breaks, loop_body_amounts, while_full, do_full, body_amounts, step_flows, flows, Feasible}
 use Rattle.peak_laws.proofs.Places.{Every, every_append, every_of, every_with, From, froms, Within, within}
 use Rattle.peak_laws.proofs.Amounts.{shared, then_first_feasible, then_second_feasible, choice_first_feasible, choice_second_feasible, while_feasible, do_feasible, body_feasible}
 use Rattle.peak_laws.proofs.Conserved.{weigh, weigh_append, weigh_same, weigh_none, arriving, at, at_sum, at_here, counts_length, step_counts_length, head_plus, head_some, head_self, then_whole, body_whole, conserved}
@@ -27,7 +27,7 @@ outside_enters l e (inr h) =
     ap (λ b. (e.to == l.from) && not b) (and_right (nat_le l.from e.from) (nat_lt e.from l.past) (le-ltb e.from l.past h)) ∙ and_true (e.to == l.from)
 
 turns_other : (l : LoopCopy) (e : Edge) → (e.from ≡ l.test → ⊥) → turns l e ≡ false
-turns_other l e ne = and_right (is_yes e.way) (e.from == l.test) (ne_eqb e.from l.test ne)
+turns_other l e ne = and_right (is_true_way e.way) (e.from == l.test) (ne_eqb e.from l.test ne)
 
 -- edges of another part turn nothing
 turns_none : (lo hi : ℕ) (l : LoopCopy) (es : List Edge) (xs : List ℕ) → (l.test < lo) ⊎ (hi ≤ l.test) → Every (From lo hi) es → weigh (turns l) es xs ≡ 0
@@ -48,19 +48,19 @@ step_turns_none l None n x = refl
 step_turns_none l (Some d) n x = refl
 
 -- the loop, of edges with these counts, where w come from elsewhere to the node i
-abbrev pub KeepsRow : List Edge → List ℕ → ℕ → ℕ → Fee → Type 0
-KeepsRow es xs i w f = weigh (turns f.ring) es xs ≤ most f.ring * (weigh (enters f.ring) es xs + at f.ring.from i w)
+abbrev pub KeepsRow : List Edge → List ℕ → ℕ → ℕ → CostedLoop → Type 0
+KeepsRow es xs i w f = weigh (turns f.loop_copy) es xs ≤ turn_limit f.loop_copy * (weigh (enters f.loop_copy) es xs + at f.loop_copy.from i w)
 
 abbrev pub IsTurned : Part → Type 0
 IsTurned p =
-    (n : ℕ) (k a : Targets) → Feasible (dear p) a → Every (KeepsRow (part_edges p n k) (flows p a) (head (size p) n k.next) (whole a)) (fees p n)
+    (n : ℕ) (k a : Targets) → Feasible (dearest_ways p) a → Every (KeepsRow (part_edges p n k) (flows p a) (head (size p) n k.next) (whole a)) (costed_loops p n)
 
 grows : (m t u b c : ℕ) → t ≤ m * b → u ≡ t → b ≤ c → u ≤ m * c
 grows m t u b c h is le = omega (arith, h, is, mul-le-mul_left m le)
 
 turn_then : (p q : Part) → IsTurned p → IsTurned q → IsTurned (Then p q)
 turn_then p q hp hq n k a h =
-    every_append row (fees p n) (fees q nq) (every_with (Within n nq) (KeepsRow ep xp ip (whole first)) row (fees p n) of_p (within p n) (hp n kp first fp)) (every_with (Within nq hi) (KeepsRow eq xq iq (whole second)) row (fees q nq) of_q (within q nq) (hq nq k second fq))
+    every_append row (costed_loops p n) (costed_loops q nq) (every_with (Within n nq) (KeepsRow ep xp ip (whole first)) row (costed_loops p n) of_p (within p n) (hp n kp first fp)) (every_with (Within nq hi) (KeepsRow eq xq iq (whole second)) row (costed_loops q nq) of_q (within q nq) (hq nq k second fq))
   where
     nq : ℕ
     nq = n + size p
@@ -78,16 +78,16 @@ turn_then p q hp hq n k a h =
     kp = with_next k iq
 
     first : Targets
-    first = then_first (dear p) (dear q) a
+    first = then_first (dearest_ways p) (dearest_ways q) a
 
     second : Targets
-    second = then_second (dear p) (dear q) a
+    second = then_second (dearest_ways p) (dearest_ways q) a
 
-    fp : Feasible (dear p) first
-    fp = then_first_feasible (dear p) (dear q) a h
+    fp : Feasible (dearest_ways p) first
+    fp = then_first_feasible (dearest_ways p) (dearest_ways q) a h
 
-    fq : Feasible (dear q) second
-    fq = then_second_feasible (dear p) (dear q) a h
+    fq : Feasible (dearest_ways q) second
+    fq = then_second_feasible (dearest_ways p) (dearest_ways q) a h
 
     ep : List Edge
     ep = part_edges p n kp
@@ -104,27 +104,27 @@ turn_then p q hp hq n k a h =
     same : length xp ≡ length ep
     same = counts_length p n kp first
 
-    row : Fee → Type 0
+    row : CostedLoop → Type 0
     row f = KeepsRow (ep ++ eq) (xp ++ xq) (head (size p + size q) n k.next) (whole a) f
 
-    of_p : (f : Fee) → Within n nq f → KeepsRow ep xp ip (whole first) f → row f
+    of_p : (f : CostedLoop) → Within n nq f → KeepsRow ep xp ip (whole first) f → row f
     of_p f w r =
-        grows (most f.ring) _ _ _ _ r (omega (arith, weigh_append (turns f.ring) ep eq xp xq same, turns_none nq hi f.ring eq xq (inl (omega (arith, w.before, w.most))) (froms q nq k))) (omega (arith, weigh_append (enters f.ring) ep eq xp xq same, ap (λ i. at f.ring.from i (whole a)) (head_plus (size p) (size q) n k.next), ap (at f.ring.from ip) (then_whole (dear p) (dear q) a)))
+        grows (turn_limit f.loop_copy) _ _ _ _ r (omega (arith, weigh_append (turns f.loop_copy) ep eq xp xq same, turns_none nq hi f.loop_copy eq xq (inl (omega (arith, w.before, w.most))) (froms q nq k))) (omega (arith, weigh_append (enters f.loop_copy) ep eq xp xq same, ap (λ i. at f.loop_copy.from i (whole a)) (head_plus (size p) (size q) n k.next), ap (at f.loop_copy.from ip) (then_whole (dearest_ways p) (dearest_ways q) a)))
 
-    of_q : (f : Fee) → Within nq hi f → KeepsRow eq xq iq (whole second) f → row f
+    of_q : (f : CostedLoop) → Within nq hi f → KeepsRow eq xq iq (whole second) f → row f
     of_q f w r =
-        grows (most f.ring) _ _ _ _ r (omega (arith, weigh_append (turns f.ring) ep eq xp xq same, turns_none n nq f.ring ep xp (inr (omega (arith, w.after, w.least))) (froms p n kp))) (omega (arith, weigh_append (enters f.ring) ep eq xp xq same, conserved p n kp first f.ring.from fp, enters_all n nq f.ring ep xp (inl w.least) (froms p n kp), ap (λ i. at f.ring.from i (whole a)) (head_plus (size p) (size q) n k.next), ap (at f.ring.from ip) (then_whole (dear p) (dear q) a)))
+        grows (turn_limit f.loop_copy) _ _ _ _ r (omega (arith, weigh_append (turns f.loop_copy) ep eq xp xq same, turns_none n nq f.loop_copy ep xp (inr (omega (arith, w.after, w.least))) (froms p n kp))) (omega (arith, weigh_append (enters f.loop_copy) ep eq xp xq same, conserved p n kp first f.loop_copy.from fp, enters_all n nq f.loop_copy ep xp (inl w.least) (froms p n kp), ap (λ i. at f.loop_copy.from i (whole a)) (head_plus (size p) (size q) n k.next), ap (at f.loop_copy.from ip) (then_whole (dearest_ways p) (dearest_ways q) a)))
 
 -- an edge that leads to a part from before or behind it enters its loops at its first node
-entering : (f : Fee) (e : Edge) (x : ℕ) → (e.from < f.ring.from) ⊎ (f.ring.past ≤ e.from) → (if enters f.ring e then x else 0) ≡ at f.ring.from e.to x
-entering f e x far = ap (λ b. if b then x else 0) (outside_enters f.ring e far)
+entering : (f : CostedLoop) (e : Edge) (x : ℕ) → (e.from < f.loop_copy.from) ⊎ (f.loop_copy.past ≤ e.from) → (if enters f.loop_copy e then x else 0) ≡ at f.loop_copy.from e.to x
+entering f e x far = ap (λ b. if b then x else 0) (outside_enters f.loop_copy e far)
 
-turning_none : (f : Fee) (e : Edge) (x : ℕ) → (e.from ≡ f.ring.test → ⊥) → (if turns f.ring e then x else 0) ≡ 0
-turning_none f e x ne = ap (λ b. if b then x else 0) (turns_other f.ring e ne)
+turning_none : (f : CostedLoop) (e : Edge) (x : ℕ) → (e.from ≡ f.loop_copy.test → ⊥) → (if turns f.loop_copy e then x else 0) ≡ 0
+turning_none f e x ne = ap (λ b. if b then x else 0) (turns_other f.loop_copy e ne)
 
 turn_choice : (c : ℕ) (p q : Part) → IsTurned p → IsTurned q → IsTurned (Choice c p q)
 turn_choice c p q hp hq n k a h =
-    every_append row (fees p np) (fees q nq) (every_with (Within np nq) (KeepsRow ep xp ip (whole first)) row (fees p np) of_p (within p np) (hp np k first (choice_first_feasible (dear p) (dear q) a))) (every_with (Within nq hi) (KeepsRow eq xq iq (whole second)) row (fees q nq) of_q (within q nq) (hq nq k second (choice_second_feasible c (dear p) (dear q) a h)))
+    every_append row (costed_loops p np) (costed_loops q nq) (every_with (Within np nq) (KeepsRow ep xp ip (whole first)) row (costed_loops p np) of_p (within p np) (hp np k first (choice_first_feasible (dearest_ways p) (dearest_ways q) a))) (every_with (Within nq hi) (KeepsRow eq xq iq (whole second)) row (costed_loops q nq) of_q (within q nq) (hq nq k second (choice_second_feasible c (dearest_ways p) (dearest_ways q) a h)))
   where
     np : ℕ
     np = n + 1
@@ -142,10 +142,10 @@ turn_choice c p q hp hq n k a h =
     iq = head (size q) (n + 1 + size p) k.next
 
     first : Targets
-    first = choice_first (dear p) (dear q) a
+    first = choice_first (dearest_ways p) (dearest_ways q) a
 
     second : Targets
-    second = choice_second (dear p) (dear q) a
+    second = choice_second (dearest_ways p) (dearest_ways q) a
 
     ep : List Edge
     ep = part_edges p np k
@@ -168,30 +168,30 @@ turn_choice c p q hp hq n k a h =
     no : Edge
     no = leaves n False (head (size q) (n + 1 + size p) k.next)
 
-    row : Fee → Type 0
+    row : CostedLoop → Type 0
     row f = KeepsRow (yes ∷ (no ∷ (ep ++ eq))) (whole first ∷ (whole second ∷ (xp ++ xq))) (head (1 + (size p + size q)) n k.next) (whole a) f
 
-    of_p : (f : Fee) → Within np nq f → KeepsRow ep xp ip (whole first) f → row f
+    of_p : (f : CostedLoop) → Within np nq f → KeepsRow ep xp ip (whole first) f → row f
     of_p f w r =
-        grows (most f.ring) _ _ _ _ r (omega (arith, turning_none f yes (whole first) (λ is. omega (arith, is, w.least, w.after)), weigh_append (turns f.ring) ep eq xp xq same, turns_none nq hi f.ring eq xq (inl (omega (arith, w.before, w.most))) (froms q nq k))) (omega (arith, entering f yes (whole first) (inl (omega (arith, w.least))), weigh_append (enters f.ring) ep eq xp xq same))
+        grows (turn_limit f.loop_copy) _ _ _ _ r (omega (arith, turning_none f yes (whole first) (λ is. omega (arith, is, w.least, w.after)), weigh_append (turns f.loop_copy) ep eq xp xq same, turns_none nq hi f.loop_copy eq xq (inl (omega (arith, w.before, w.most))) (froms q nq k))) (omega (arith, entering f yes (whole first) (inl (omega (arith, w.least))), weigh_append (enters f.loop_copy) ep eq xp xq same))
 
-    of_q : (f : Fee) → Within nq hi f → KeepsRow eq xq iq (whole second) f → row f
+    of_q : (f : CostedLoop) → Within nq hi f → KeepsRow eq xq iq (whole second) f → row f
     of_q f w r =
-        grows (most f.ring) _ _ _ _ r (omega (arith, turning_none f yes (whole first) (λ is. omega (arith, is, w.least, w.after)), weigh_append (turns f.ring) ep eq xp xq same, turns_none np nq f.ring ep xp (inr (omega (arith, w.least, w.after))) (froms p np k))) (omega (arith, entering f no (whole second) (inl (omega (arith, w.least))), weigh_append (enters f.ring) ep eq xp xq same))
+        grows (turn_limit f.loop_copy) _ _ _ _ r (omega (arith, turning_none f yes (whole first) (λ is. omega (arith, is, w.least, w.after)), weigh_append (turns f.loop_copy) ep eq xp xq same, turns_none np nq f.loop_copy ep xp (inr (omega (arith, w.least, w.after))) (froms p np k))) (omega (arith, entering f no (whole second) (inl (omega (arith, w.least))), weigh_append (enters f.loop_copy) ep eq xp xq same))
 
-pub made_most : (o : Option ℕ) (x : ℕ) → made o x ≤ x
-made_most None x = omega arith
-made_most (Some d) x = omega arith
+pub amount_by_way_most : (o : Option ℕ) (x : ℕ) → amount_by_way o x ≤ x
+amount_by_way_most None x = omega arith
+amount_by_way_most (Some d) x = omega arith
 
 turn_while : (c m : ℕ) (s : Option ℕ) (p : Part) → IsTurned p → IsTurned (While c m s p)
 turn_while c m s p hp n k a h =
-    (own, every_with (Within np hi) (KeepsRow ep xp ip (whole x)) row (fees p np) of_p (within p np) (hp np kp x (while_feasible c m y w a h)))
+    (own, every_with (Within np hi) (KeepsRow ep xp ip (whole x)) row (costed_loops p np) of_p (within p np) (hp np kp x (while_feasible c m y w a h)))
   where
     w : Ways
-    w = dear p
+    w = dearest_ways p
 
     y : ℕ
-    y = turn c s (dear p)
+    y = turn c s (dearest_ways p)
 
     stays : ℕ
     stays = while_stays c m y w a.next
@@ -206,7 +206,7 @@ turn_while c m s p hp n k a h =
     full = while_full m w stays (out + r)
 
     x : Targets
-    x = inner w full out r
+    x = loop_body_amounts w full out r
 
     np : ℕ
     np = n + 1 + step_size s
@@ -244,10 +244,10 @@ turn_while c m s p hp n k a h =
     no : Edge
     no = leaves n False k.next
 
-    ring : LoopCopy
-    ring = while_ring p n m s
+    loop_copy : LoopCopy
+    loop_copy = while_copy p n m s
 
-    row : Fee → Type 0
+    row : CostedLoop → Type 0
     row f = KeepsRow (yes ∷ (no ∷ (es ++ ep))) ((full + (out + r)) ∷ (stays ∷ (xs ++ xp))) (head (1 + (step_size s + size p)) n k.next) (whole a) f
 
     shares : stays + out ≡ a.next
@@ -259,25 +259,25 @@ turn_while c m s p hp n k a h =
     all : whole a ≡ stays + (out + r)
     all = omega (arith, shares, h.breaks, h.continues)
 
-    own : row (fee ring y)
+    own : row (costed_loop loop_copy y)
     own =
         let entry : head (1 + (step_size s + size p)) n k.next ≡ n = head_some (1 + (step_size s + size p)) n k.next (omega arith) in
-        let within_bound : full + (out + r) ≤ (m + 1) * (stays + (out + r)) = omega (arith, made_most (back w) ((m + 1) * stays + m * (out + r))) in
-        grows (m + 1) (full + (out + r)) _ (stays + (out + r)) _ within_bound (omega (arith, ap (λ b. if b then full + (out + r) else 0) (eq-eqb n n refl), weigh_append (turns ring) es ep xs xp same, step_turns_none ring s n full, turns_none np hi ring ep xp (inl (omega arith)) (froms p np kp))) (omega (arith, all, ap (λ i. at n i (whole a)) entry, at_here n (whole a)))
+        let within_bound : full + (out + r) ≤ (m + 1) * (stays + (out + r)) = omega (arith, amount_by_way_most (back w) ((m + 1) * stays + m * (out + r))) in
+        grows (m + 1) (full + (out + r)) _ (stays + (out + r)) _ within_bound (omega (arith, ap (λ b. if b then full + (out + r) else 0) (eq-eqb n n refl), weigh_append (turns loop_copy) es ep xs xp same, step_turns_none loop_copy s n full, turns_none np hi loop_copy ep xp (inl (omega arith)) (froms p np kp))) (omega (arith, all, ap (λ i. at n i (whole a)) entry, at_here n (whole a)))
 
-    of_p : (f : Fee) → Within np hi f → KeepsRow ep xp ip (whole x) f → row f
+    of_p : (f : CostedLoop) → Within np hi f → KeepsRow ep xp ip (whole x) f → row f
     of_p f i t =
-        grows (most f.ring) _ _ _ _ t (omega (arith, turning_none f yes (full + (out + r)) (λ is. omega (arith, is, i.least, i.after)), weigh_append (turns f.ring) es ep xs xp same, step_turns_none f.ring s n full)) (omega (arith, entering f yes (full + (out + r)) (inl (omega (arith, i.least))), ap (at f.ring.from ip) into, weigh_append (enters f.ring) es ep xs xp same))
+        grows (turn_limit f.loop_copy) _ _ _ _ t (omega (arith, turning_none f yes (full + (out + r)) (λ is. omega (arith, is, i.least, i.after)), weigh_append (turns f.loop_copy) es ep xs xp same, step_turns_none f.loop_copy s n full)) (omega (arith, entering f yes (full + (out + r)) (inl (omega (arith, i.least))), ap (at f.loop_copy.from ip) into, weigh_append (enters f.loop_copy) es ep xs xp same))
 
 turn_do : (c m : ℕ) (p : Part) → IsTurned p → IsTurned (Do c m p)
 turn_do c m p hp n k a h =
-    every_append row (fees p n) (fee ring y ∷ []) (every_with (Within n nc) (KeepsRow ep xp ip (whole x)) row (fees p n) of_p (within p n) (hp n kp x (do_feasible c m y w a h))) (own, tt)
+    every_append row (costed_loops p n) (costed_loop loop_copy y ∷ []) (every_with (Within n nc) (KeepsRow ep xp ip (whole x)) row (costed_loops p n) of_p (within p n) (hp n kp x (do_feasible c m y w a h))) (own, tt)
   where
     w : Ways
-    w = dear p
+    w = dearest_ways p
 
     y : ℕ
-    y = turn c None (dear p)
+    y = turn c None (dearest_ways p)
 
     stays : ℕ
     stays = do_stays c m y w a.next
@@ -292,7 +292,7 @@ turn_do c m p hp n k a h =
     full = do_full m w (stays + (out + r))
 
     x : Targets
-    x = inner w (full + stays) out r
+    x = loop_body_amounts w (full + stays) out r
 
     nc : ℕ
     nc = n + size p
@@ -324,10 +324,10 @@ turn_do c m p hp n k a h =
     same : length xp ≡ length ep
     same = counts_length p n kp x
 
-    ring : LoopCopy
-    ring = do_ring p n m
+    loop_copy : LoopCopy
+    loop_copy = do_copy p n m
 
-    row : Fee → Type 0
+    row : CostedLoop → Type 0
     row f = KeepsRow (ep ++ es) (xp ++ xs) (head (size p + 1) n k.next) (whole a) f
 
     shares : stays + out ≡ a.next
@@ -345,23 +345,23 @@ turn_do c m p hp n k a h =
     start : ip ≡ n
     start = head_self (size p) n
 
-    own : row (fee ring y)
+    own : row (costed_loop loop_copy y)
     own =
-        let within_bound : full ≤ (m + 1 - 1) * (stays + (out + r)) = subst (λ b. full ≤ b * (stays + (out + r))) (less m) (made_most (back w) (m * (stays + (out + r)))) in
-        grows (m + 1 - 1) full _ (stays + (out + r)) _ within_bound (omega (arith, ap (λ b. if b then full else 0) (eq-eqb nc nc refl), weigh_append (turns ring) ep es xp xs same, turns_none n nc ring ep xp (inr (omega arith)) (froms p n kp))) (omega (arith, all, ap (λ i. at n i (whole a)) entry, at_here n (whole a)))
+        let within_bound : full ≤ (m + 1 - 1) * (stays + (out + r)) = subst (λ b. full ≤ b * (stays + (out + r))) (less m) (amount_by_way_most (back w) (m * (stays + (out + r)))) in
+        grows (m + 1 - 1) full _ (stays + (out + r)) _ within_bound (omega (arith, ap (λ b. if b then full else 0) (eq-eqb nc nc refl), weigh_append (turns loop_copy) ep es xp xs same, turns_none n nc loop_copy ep xp (inr (omega arith)) (froms p n kp))) (omega (arith, all, ap (λ i. at n i (whole a)) entry, at_here n (whole a)))
       where
         less : (b : ℕ) → b ≡ b + 1 - 1
         less b = omega arith
 
-    of_p : (f : Fee) → Within n nc f → KeepsRow ep xp ip (whole x) f → row f
+    of_p : (f : CostedLoop) → Within n nc f → KeepsRow ep xp ip (whole x) f → row f
     of_p f i t =
-        grows (most f.ring) _ _ _ _ t (omega (arith, weigh_append (turns f.ring) ep es xp xs same, turning_none f yes full (λ is. omega (arith, is, i.before, i.most)))) (omega (arith, entering f yes full (inr i.most), ap (at f.ring.from ip) into, at_sum f.ring.from ip full (whole a), ap (λ j. at f.ring.from j (whole a)) start, ap (λ j. at f.ring.from j (whole a)) entry, weigh_append (enters f.ring) ep es xp xs same))
+        grows (turn_limit f.loop_copy) _ _ _ _ t (omega (arith, weigh_append (turns f.loop_copy) ep es xp xs same, turning_none f yes full (λ is. omega (arith, is, i.before, i.most)))) (omega (arith, entering f yes full (inr i.most), ap (at f.loop_copy.from ip) into, at_sum f.loop_copy.from ip full (whole a), ap (λ j. at f.loop_copy.from j (whole a)) start, ap (λ j. at f.loop_copy.from j (whole a)) entry, weigh_append (enters f.loop_copy) ep es xp xs same))
 
 turn_body : (p : Part) → IsTurned p → IsTurned (Body p)
 turn_body p hp n k a h =
-    let x = body_amounts (dear p) a.next in
-    let all : whole x ≡ whole a = omega (arith, body_whole (dear p) a.next, h.breaks, h.continues, h.returns) in
-    subst (λ z. Every (KeepsRow (part_edges p n (all_to k.next)) (flows p x) (head (size p) n k.next) z) (fees p n)) all (hp n (all_to k.next) x (body_feasible (dear p) a h))
+    let x = body_amounts (dearest_ways p) a.next in
+    let all : whole x ≡ whole a = omega (arith, body_whole (dearest_ways p) a.next, h.breaks, h.continues, h.returns) in
+    subst (λ z. Every (KeepsRow (part_edges p n (all_to k.next)) (flows p x) (head (size p) n k.next) z) (costed_loops p n)) all (hp n (all_to k.next) x (body_feasible (dearest_ways p) a h))
 
 pub turned : (p : Part) → IsTurned p
 turned Nothing n k a h = tt

@@ -1,4 +1,5 @@
--- What the greatest cost of a part that is entered once comes to: counts that attain it, and multipliers that bound it. This project's own.
+-- What the greatest cost of a part that is entered once comes to: counts that attain it, and multipliers that bound it.
+-- This project's own.
 use Rattle.std.specs.Prelude.{◌≡◌, ℕ, ℤ, pos, List, [], ◌∷◌, ◌++◌, map}
 use Rattle.c_tree.specs.declared.program.Costs.{Costs}
 use Rattle.c_tree.specs.declared.program.Program.{Program}
@@ -11,13 +12,15 @@ use Rattle.lin_rows.specs.declared.row.Rows.{Rows}
 use Rattle.ipet_rows.specs.FlowRows.{flow_rows}
 use Rattle.ipet_rows.specs.CapsBound.{costs_of_edges}
 use Rattle.peak_laws.specs.ProgramParts.{program_part}
-use Rattle.peak_laws.specs.Parts.{Part, from_entry, potentials, Fee, fees}
+use Rattle.peak_laws.specs.Parts.{Part, from_entry, potentials, CostedLoop, costed_loops}
 use Rattle.peak_laws.specs.Flows.{flows}
 
-abbrev pub rings : List Fee → List LoopCopy
-rings fs = map (λ f. f.ring) fs
+-- the loops, without their costs
+abbrev pub copies_of_loops : List CostedLoop → List LoopCopy
+copies_of_loops fs = map (λ f. f.loop_copy) fs
 
-abbrev pub turn_costs : List Fee → List ℕ
+-- the costs of their turns
+abbrev pub turn_costs : List CostedLoop → List ℕ
 turn_costs fs = map (λ f. f.turn) fs
 
 -- the end costs nothing
@@ -28,6 +31,7 @@ at_end = all_to 0
 abbrev pub once : Targets
 once = record { next = 1; breaks = 0; continues = 0; returns = 0 }
 
+-- the cost of the dearest way through it
 abbrev pub peak_value : Part → ℕ
 peak_value q = from_entry q at_end
 
@@ -37,7 +41,7 @@ peak_counts q = 1 ∷ flows q once
 
 -- of edge 0 the value, of each node its potential, and of each loop what its turn costs
 abbrev pub peak_multipliers : Part → List ℤ
-peak_multipliers q = pos (peak_value q) ∷ (map pos (potentials q at_end) ++ map pos (turn_costs (fees q 2)))
+peak_multipliers q = pos (peak_value q) ∷ (map pos (potentials q at_end) ++ map pos (turn_costs (costed_loops q 2)))
 
 -- the least count of each edge is 0
 abbrev pub FromZero : List (ℕ × ℕ) → Type 0

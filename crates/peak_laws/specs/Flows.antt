@@ -1,8 +1,8 @@
--- How often each edge of a part is taken, where it is gone through by its dearest ways so often as is asked for each of the four. Loops are
--- multiplied out: no walk is followed. This project's own.
+-- How often each edge of a part is taken, where it is gone through by its dearest ways so often as is asked for each of
+-- the four. Loops are multiplied out: no walk is followed. This project's own.
 use Rattle.std.specs.Prelude.{◌≡◌, ℕ, ◌+◌, ◌*◌, nat_le, Bool, true, false, if◌then◌else◌, List, [], ◌∷◌, ◌++◌, Option, Some, None}
 use Rattle.flow_laws.specs.Sites.{Targets}
-use Rattle.peak_laws.specs.Parts.{Part, Nothing, Block, Then, Choice, While, Do, Body, greater, more, both, Ways, dear, back, turn, ahead, step_costs}
+use Rattle.peak_laws.specs.Parts.{Part, Nothing, Block, Then, Choice, While, Do, Body, greater, more, both, Ways, dearest_ways, back, turn, ahead, step_costs}
 
 -- ---- choosing
 
@@ -26,29 +26,45 @@ whole a = a.next + (a.breaks + (a.continues + a.returns))
 -- ---- two parts, one after the other: what leaves the second, and what leaves the first
 
 abbrev pub then_second : Ways → Ways → Targets → Targets
-then_second v w a =
-    record { next = a.next; breaks = by_second v.breaks (both v.next w.breaks) a.breaks; continues = by_second v.continues (both v.next w.continues) a.continues; returns = by_second v.returns (both v.next w.returns) a.returns }
+then_second v w a = record {
+  next = a.next;
+  breaks = by_second v.breaks (both v.next w.breaks) a.breaks;
+  continues = by_second v.continues (both v.next w.continues) a.continues;
+  returns = by_second v.returns (both v.next w.returns) a.returns;
+}
 
 abbrev pub then_first : Ways → Ways → Targets → Targets
-then_first v w a =
-    record { next = whole (then_second v w a); breaks = by_first v.breaks (both v.next w.breaks) a.breaks; continues = by_first v.continues (both v.next w.continues) a.continues; returns = by_first v.returns (both v.next w.returns) a.returns }
+then_first v w a = record {
+  next = whole (then_second v w a);
+  breaks = by_first v.breaks (both v.next w.breaks) a.breaks;
+  continues = by_first v.continues (both v.next w.continues) a.continues;
+  returns = by_first v.returns (both v.next w.returns) a.returns;
+}
 
 -- ---- a choice
 
 abbrev pub choice_first : Ways → Ways → Targets → Targets
-choice_first v w a =
-    record { next = by_first v.next w.next a.next; breaks = by_first v.breaks w.breaks a.breaks; continues = by_first v.continues w.continues a.continues; returns = by_first v.returns w.returns a.returns }
+choice_first v w a = record {
+  next = by_first v.next w.next a.next;
+  breaks = by_first v.breaks w.breaks a.breaks;
+  continues = by_first v.continues w.continues a.continues;
+  returns = by_first v.returns w.returns a.returns;
+}
 
 abbrev pub choice_second : Ways → Ways → Targets → Targets
-choice_second v w a =
-    record { next = by_second v.next w.next a.next; breaks = by_second v.breaks w.breaks a.breaks; continues = by_second v.continues w.continues a.continues; returns = by_second v.returns w.returns a.returns }
+choice_second v w a = record {
+  next = by_second v.next w.next a.next;
+  breaks = by_second v.breaks w.breaks a.breaks;
+  continues = by_second v.continues w.continues a.continues;
+  returns = by_second v.returns w.returns a.returns;
+}
 
 -- ---- loops
 
 -- x where there is a way
-abbrev pub made : Option ℕ → ℕ → ℕ
-made None x = 0
-made (Some d) x = x
+abbrev pub amount_by_way : Option ℕ → ℕ → ℕ
+amount_by_way None x = 0
+amount_by_way (Some d) x = x
 
 -- how often a loop is left by its condition, and how often by `break`
 abbrev pub while_stays : ℕ → ℕ → ℕ → Ways → ℕ → ℕ
@@ -64,19 +80,24 @@ abbrev pub do_breaks : ℕ → ℕ → ℕ → Ways → ℕ → ℕ
 do_breaks c m y w x = by_second (more (m * y + c) (back w)) (more (m * y) w.breaks) x
 
 -- a body that leads back so often, and is left for good so often
-abbrev pub inner : Ways → ℕ → ℕ → ℕ → Targets
-inner w full out r =
-    record { next = by_first w.next w.continues full; breaks = out; continues = by_second w.next w.continues full; returns = r }
+abbrev pub loop_body_amounts : Ways → ℕ → ℕ → ℕ → Targets
+loop_body_amounts w full out r = record {
+  next = by_first w.next w.continues full;
+  breaks = out;
+  continues = by_second w.next w.continues full;
+  returns = r;
+}
 
 -- full turns: all of them where the condition ends the loop, else all but one
 abbrev pub while_full : ℕ → Ways → ℕ → ℕ → ℕ
-while_full m w stays out = made (back w) ((m + 1) * stays + m * out)
+while_full m w stays out = amount_by_way (back w) ((m + 1) * stays + m * out)
 
 abbrev pub do_full : ℕ → Ways → ℕ → ℕ
-do_full m w x = made (back w) (m * x)
+do_full m w x = amount_by_way (back w) (m * x)
 
 -- ---- a callee's body
 
+-- how a callee's body is left that is left x times
 abbrev pub body_amounts : Ways → ℕ → Targets
 body_amounts w x =
     let near = by_first (greater w.next w.breaks) (greater w.continues w.returns) x in
@@ -91,24 +112,24 @@ step_flows (Some s) x = x ∷ []
 abbrev pub flows : Part → Targets → List ℕ
 flows Nothing a = []
 flows (Block c l) a = ahead a l ∷ []
-flows (Then p q) a = flows p (then_first (dear p) (dear q) a) ++ flows q (then_second (dear p) (dear q) a)
+flows (Then p q) a = flows p (then_first (dearest_ways p) (dearest_ways q) a) ++ flows q (then_second (dearest_ways p) (dearest_ways q) a)
 flows (Choice c p q) a =
-    let first = choice_first (dear p) (dear q) a in
-    let second = choice_second (dear p) (dear q) a in
+    let first = choice_first (dearest_ways p) (dearest_ways q) a in
+    let second = choice_second (dearest_ways p) (dearest_ways q) a in
     whole first ∷ (whole second ∷ (flows p first ++ flows q second))
 flows (While c m s p) a =
-    let y = turn c s (dear p) in
-    let stays = while_stays c m y (dear p) a.next in
-    let breaks = while_breaks c m y (dear p) a.next in
-    let full = while_full m (dear p) stays (breaks + a.returns) in
-    (full + (breaks + a.returns)) ∷ (stays ∷ (step_flows s full ++ flows p (inner (dear p) full breaks a.returns)))
+    let y = turn c s (dearest_ways p) in
+    let stays = while_stays c m y (dearest_ways p) a.next in
+    let breaks = while_breaks c m y (dearest_ways p) a.next in
+    let full = while_full m (dearest_ways p) stays (breaks + a.returns) in
+    (full + (breaks + a.returns)) ∷ (stays ∷ (step_flows s full ++ flows p (loop_body_amounts (dearest_ways p) full breaks a.returns)))
 flows (Do c m p) a =
-    let y = turn c None (dear p) in
-    let stays = do_stays c m y (dear p) a.next in
-    let breaks = do_breaks c m y (dear p) a.next in
-    let full = do_full m (dear p) (stays + (breaks + a.returns)) in
-    flows p (inner (dear p) (full + stays) breaks a.returns) ++ (full ∷ (stays ∷ []))
-flows (Body p) a = flows p (body_amounts (dear p) a.next)
+    let y = turn c None (dearest_ways p) in
+    let stays = do_stays c m y (dearest_ways p) a.next in
+    let breaks = do_breaks c m y (dearest_ways p) a.next in
+    let full = do_full m (dearest_ways p) (stays + (breaks + a.returns)) in
+    flows p (loop_body_amounts (dearest_ways p) (full + stays) breaks a.returns) ++ (full ∷ (stays ∷ []))
+flows (Body p) a = flows p (body_amounts (dearest_ways p) a.next)
 
 -- the cost of each edge's source
 abbrev pub edge_costs : Part → List ℕ
@@ -125,16 +146,18 @@ abbrev pub Leads : Option ℕ → ℕ → Type 0
 Leads None x = x ≡ 0
 Leads (Some d) x = Unit {0}
 
+-- nothing is asked for by a way that is not there
 pub record Feasible (w : Ways) (a : Targets) : Type 0 where
   pub next : Leads w.next a.next
   pub breaks : Leads w.breaks a.breaks
   pub continues : Leads w.continues a.continues
   pub returns : Leads w.returns a.returns
 
--- what it costs
+-- what x times a way costs
 abbrev pub times : Option ℕ → ℕ → ℕ
 times None x = 0
 times (Some d) x = d * x
 
+-- what all that is asked for costs
 abbrev pub value : Ways → Targets → ℕ
 value w a = times w.next a.next + (times w.breaks a.breaks + (times w.continues a.continues + times w.returns a.returns))

@@ -2,5 +2,5 @@ pub mod Parts
 pub mod Flows
 pub mod ProgramParts
 pub mod Answers
-pub mod Hefts
+pub mod Magnitudes
 pub mod Peaks

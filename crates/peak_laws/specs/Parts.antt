@@ -1,5 +1,5 @@
--- Parts of a flat graph as trees, calls inlined, and their dearest ways. A part is entered at its first node, and is left in four ways, as
--- a list of statements is: by its end, `break`, `continue` and `return`. This project's own.
+-- Parts of a flat graph as trees, calls inlined, and their dearest ways. A part is entered at its first node, and is
+-- left in four ways, as a list of statements is: by its end, `break`, `continue` and `return`. This project's own.
 use Rattle.std.specs.Prelude.{◌≤◌, ℕ, ◌+◌, ◌-◌, ◌*◌, ◌==◌, ◌&&◌, max, Bool, true, false, if◌then◌else◌, List, [], ◌∷◌, ◌++◌, Option, Some, None}
 use Rattle.flow_laws.specs.declared.graph.Way.{Way}
 use Rattle.flow_laws.specs.declared.graph.Way.TheVariants.{Next, True, False}
@@ -10,8 +10,9 @@ pub use Rattle.peak_laws.specs.declared.ways.Leaving.{Leaving}
 pub use Rattle.peak_laws.specs.declared.ways.Leaving.TheVariants.{ByEnd, ByBreak, ByContinue, ByReturn}
 pub use Rattle.peak_laws.specs.declared.ways.Ways.{Ways}
 
--- no node; a node with one end; one part after the other; a condition with two parts; a loop with its condition, its step and its body; and
--- a callee's body, whose `return` leads to its end. Each node has its cost. `spare` is the bound of the loop less one
+-- no node; a node with one end; one part after the other; a condition with two parts; a loop with its condition, its
+-- step and its body; and a callee's body, whose `return` leads to its end. Each node has its cost. `spare` is the bound
+-- of the loop less one
 pub data Part : Type 0 where
   Nothing : Part
   Block : (cost : ℕ) (leaving : Leaving) → Part
@@ -23,6 +24,7 @@ pub data Part : Type 0 where
 
 -- ---- numbers that may be none
 
+-- the greater of two, or the one that is there
 abbrev pub greater : Option ℕ → Option ℕ → Option ℕ
 greater None o = o
 greater (Some d) None = Some d
@@ -33,12 +35,14 @@ abbrev pub more : ℕ → Option ℕ → Option ℕ
 more d None = None
 more d (Some e) = Some (d + e)
 
+-- their sum, where both are there
 abbrev pub both : Option ℕ → Option ℕ → Option ℕ
 both None o = None
 both (Some d) o = more d o
 
 -- ---- dearest ways
 
+-- the end alone is a way out
 abbrev pub only_next : Option ℕ → Ways
 only_next o = record { next = o; breaks = None; continues = None; returns = None }
 
@@ -49,12 +53,20 @@ block_ways c ByContinue = record { next = None; breaks = None; continues = Some 
 block_ways c ByReturn = record { next = None; breaks = None; continues = None; returns = Some c }
 
 abbrev pub then_ways : Ways → Ways → Ways
-then_ways a b =
-    record { next = both a.next b.next; breaks = greater a.breaks (both a.next b.breaks); continues = greater a.continues (both a.next b.continues); returns = greater a.returns (both a.next b.returns) }
+then_ways a b = record {
+  next = both a.next b.next;
+  breaks = greater a.breaks (both a.next b.breaks);
+  continues = greater a.continues (both a.next b.continues);
+  returns = greater a.returns (both a.next b.returns);
+}
 
 abbrev pub choice_ways : ℕ → Ways → Ways → Ways
-choice_ways c a b =
-    record { next = more c (greater a.next b.next); breaks = more c (greater a.breaks b.breaks); continues = more c (greater a.continues b.continues); returns = more c (greater a.returns b.returns) }
+choice_ways c a b = record {
+  next = more c (greater a.next b.next);
+  breaks = more c (greater a.breaks b.breaks);
+  continues = more c (greater a.continues b.continues);
+  returns = more c (greater a.returns b.returns);
+}
 
 abbrev pub step_cost : Option ℕ → ℕ
 step_cost None = 0
@@ -74,25 +86,35 @@ turn c s a = turn_cost (c + step_cost s) (back a)
 
 -- where each turn costs y: all turns and out by the condition, or all but one and out of the body
 abbrev pub while_ways : ℕ → ℕ → ℕ → Ways → Ways
-while_ways c m y a =
-    record { next = greater (Some ((m + 1) * y + c)) (more (m * y + c) a.breaks); breaks = None; continues = None; returns = more (m * y + c) a.returns }
+while_ways c m y a = record {
+  next = greater (Some ((m + 1) * y + c)) (more (m * y + c) a.breaks);
+  breaks = None;
+  continues = None;
+  returns = more (m * y + c) a.returns;
+}
 
 -- the same, where the body comes first and may be entered once less by the condition
 abbrev pub do_ways : ℕ → ℕ → ℕ → Ways → Ways
-do_ways c m y a =
-    record { next = greater (more (m * y + c) (back a)) (more (m * y) a.breaks); breaks = None; continues = None; returns = more (m * y) a.returns }
+do_ways c m y a = record {
+  next = greater (more (m * y + c) (back a)) (more (m * y) a.breaks);
+  breaks = None;
+  continues = None;
+  returns = more (m * y) a.returns;
+}
 
+-- a callee's body: all ways out lead to the landing
 abbrev pub body_ways : Ways → Ways
 body_ways a = only_next (greater (greater a.next a.breaks) (greater a.continues a.returns))
 
-abbrev pub dear : Part → Ways
-dear Nothing = only_next (Some 0)
-dear (Block c l) = block_ways c l
-dear (Then a b) = then_ways (dear a) (dear b)
-dear (Choice c a b) = choice_ways c (dear a) (dear b)
-dear (While c m s a) = while_ways c m (turn c s (dear a)) (dear a)
-dear (Do c m a) = do_ways c m (turn c None (dear a)) (dear a)
-dear (Body a) = body_ways (dear a)
+-- the cost of the dearest way through a part, for each of the four ways out
+abbrev pub dearest_ways : Part → Ways
+dearest_ways Nothing = only_next (Some 0)
+dearest_ways (Block c l) = block_ways c l
+dearest_ways (Then a b) = then_ways (dearest_ways a) (dearest_ways b)
+dearest_ways (Choice c a b) = choice_ways c (dearest_ways a) (dearest_ways b)
+dearest_ways (While c m s a) = while_ways c m (turn c s (dearest_ways a)) (dearest_ways a)
+dearest_ways (Do c m a) = do_ways c m (turn c None (dearest_ways a)) (dearest_ways a)
+dearest_ways (Body a) = body_ways (dearest_ways a)
 
 -- ---- dearest costs to the end
 
@@ -111,15 +133,15 @@ from_condition c y w next = c + max next (w - y)
 abbrev pub at_condition : ℕ → Option ℕ → Ways → (Targets → ℕ) → Targets → ℕ
 at_condition c s a entry t = from_condition c (turn c s a) (entry (body_of t (step_cost s + (c + t.next)))) t.next
 
--- what a part costs at most from its first node on, where what is ahead costs t; an entry of a loop pays all its turns ahead, and each turn
--- is taken off
+-- what a part costs at most from its first node on, where what is ahead costs t; an entry of a loop pays all its turns
+-- ahead, and each turn is taken off
 abbrev pub from_entry : Part → Targets → ℕ
 from_entry Nothing t = t.next
 from_entry (Block c l) t = c + ahead t l
 from_entry (Then a b) t = from_entry a (with_next t (from_entry b t))
 from_entry (Choice c a b) t = c + max (from_entry a t) (from_entry b t)
-from_entry (While c m s a) t = (m + 1) * turn c s (dear a) + at_condition c s (dear a) (from_entry a) t
-from_entry (Do c m a) t = m * turn c None (dear a) + from_entry a (body_of t (at_condition c None (dear a) (from_entry a) t))
+from_entry (While c m s a) t = (m + 1) * turn c s (dearest_ways a) + at_condition c s (dearest_ways a) (from_entry a) t
+from_entry (Do c m a) t = m * turn c None (dearest_ways a) + from_entry a (body_of t (at_condition c None (dearest_ways a) (from_entry a) t))
 from_entry (Body a) t = from_entry a (all_to t.next)
 
 -- ---- nodes, by their numbers
@@ -163,10 +185,10 @@ potentials (Block c l) t = (c + ahead t l) ∷ []
 potentials (Then a b) t = potentials a (with_next t (from_entry b t)) ++ potentials b t
 potentials (Choice c a b) t = (c + max (from_entry a t) (from_entry b t)) ∷ (potentials a t ++ potentials b t)
 potentials (While c m s a) t =
-    let q = at_condition c s (dear a) (from_entry a) t in
+    let q = at_condition c s (dearest_ways a) (from_entry a) t in
     q ∷ (step_potentials s q ++ potentials a (body_of t (step_cost s + q)))
 potentials (Do c m a) t =
-    let q = at_condition c None (dear a) (from_entry a) t in
+    let q = at_condition c None (dearest_ways a) (from_entry a) t in
     potentials a (body_of t q) ++ (q ∷ [])
 potentials (Body a) t = potentials a (all_to t.next)
 
@@ -192,52 +214,52 @@ part_edges (Do c m a) n k =
 part_edges (Body a) n k = part_edges a n (all_to k.next)
 
 -- a loop and what each turn of it costs
-pub record Fee : Type 0 where
-  pub ring : LoopCopy
+pub record CostedLoop : Type 0 where
+  pub loop_copy : LoopCopy
   pub turn : ℕ
 
-abbrev pub fee : LoopCopy → ℕ → Fee
-fee l y = record { ring = l; turn = y }
+abbrev pub costed_loop : LoopCopy → ℕ → CostedLoop
+costed_loop l y = record { loop_copy = l; turn = y }
 
-abbrev pub while_ring : Part → ℕ → ℕ → Option ℕ → LoopCopy
-while_ring a n m s = loop_at n (n + 1 + step_size s + size a) n (m + 1) false
+abbrev pub while_copy : Part → ℕ → ℕ → Option ℕ → LoopCopy
+while_copy a n m s = loop_at n (n + 1 + step_size s + size a) n (m + 1) false
 
-abbrev pub do_ring : Part → ℕ → ℕ → LoopCopy
-do_ring a n m = loop_at n (n + size a + 1) (n + size a) (m + 1) true
+abbrev pub do_copy : Part → ℕ → ℕ → LoopCopy
+do_copy a n m = loop_at n (n + size a + 1) (n + size a) (m + 1) true
 
 -- the loops of a part, by their conditions' nodes
-abbrev pub fees : Part → ℕ → List Fee
-fees Nothing n = []
-fees (Block c l) n = []
-fees (Then a b) n = fees a n ++ fees b (n + size a)
-fees (Choice c a b) n = fees a (n + 1) ++ fees b (n + 1 + size a)
-fees (While c m s a) n = fee (while_ring a n m s) (turn c s (dear a)) ∷ fees a (n + 1 + step_size s)
-fees (Do c m a) n = fees a n ++ (fee (do_ring a n m) (turn c None (dear a)) ∷ [])
-fees (Body a) n = fees a n
+abbrev pub costed_loops : Part → ℕ → List CostedLoop
+costed_loops Nothing n = []
+costed_loops (Block c l) n = []
+costed_loops (Then a b) n = costed_loops a n ++ costed_loops b (n + size a)
+costed_loops (Choice c a b) n = costed_loops a (n + 1) ++ costed_loops b (n + 1 + size a)
+costed_loops (While c m s a) n = costed_loop (while_copy a n m s) (turn c s (dearest_ways a)) ∷ costed_loops a (n + 1 + step_size s)
+costed_loops (Do c m a) n = costed_loops a n ++ (costed_loop (do_copy a n m) (turn c None (dearest_ways a)) ∷ [])
+costed_loops (Body a) n = costed_loops a n
 
 -- how often the condition of a loop may hold after each entry
-abbrev pub most : LoopCopy → ℕ
-most l = if l.at_end then l.bound - 1 else l.bound
+abbrev pub turn_limit : LoopCopy → ℕ
+turn_limit l = if l.at_end then l.bound - 1 else l.bound
 
-abbrev pub is_yes : Way → Bool
-is_yes True = true
-is_yes False = false
-is_yes Next = false
+abbrev pub is_true_way : Way → Bool
+is_true_way True = true
+is_true_way False = false
+is_true_way Next = false
 
 -- the edge turns the loop
 abbrev pub turns : LoopCopy → Edge → Bool
-turns l e = is_yes e.way && e.from == l.test
+turns l e = is_true_way e.way && e.from == l.test
 
 -- what an edge pays ahead for the loops that it enters
-abbrev pub paid : List Fee → Edge → ℕ
-paid [] e = 0
-paid (f ∷ fs) e = (if enters f.ring e then most f.ring * f.turn else 0) + paid fs e
+abbrev pub entry_charge : List CostedLoop → Edge → ℕ
+entry_charge [] e = 0
+entry_charge (f ∷ fs) e = (if enters f.loop_copy e then turn_limit f.loop_copy * f.turn else 0) + entry_charge fs e
 
 -- what is taken off where it turns a loop
-abbrev pub taken : List Fee → Edge → ℕ
-taken [] e = 0
-taken (f ∷ fs) e = (if turns f.ring e then f.turn else 0) + taken fs e
+abbrev pub turn_refund : List CostedLoop → Edge → ℕ
+turn_refund [] e = 0
+turn_refund (f ∷ fs) e = (if turns f.loop_copy e then f.turn else 0) + turn_refund fs e
 
 -- the potential of the edge's source covers its cost and the potential of its target, over these loops
-abbrev pub Covers : (ℕ → ℕ) → (ℕ → ℕ) → List Fee → Edge → Type 0
-Covers cost potential fs e = cost e.from + potential e.to + paid fs e ≤ potential e.from + taken fs e
+abbrev pub Covers : (ℕ → ℕ) → (ℕ → ℕ) → List CostedLoop → Edge → Type 0
+Covers cost potential fs e = cost e.from + potential e.to + entry_charge fs e ≤ potential e.from + turn_refund fs e

@@ -1,4 +1,5 @@
--- What the answer for a plan says. This project's own.
+-- What it says that an answer is the peak of a plan: its optimum (Li and Malik), counts that attain it, and multipliers
+-- that bound it. The rows are those of the plan's graph, and no others.
 use Rattle.std.specs.Prelude.{◌≡◌, pos}
 use Rattle.flow_laws.specs.Graphs.{graph, edges}
 use Rattle.flow_graph.specs.Plans.{Planned}
@@ -22,18 +23,21 @@ pub record AreOfPlan (plan : Planned) (rows : Rows) (objective : Objective) (wit
   pub costs_are : objective.costs ≡ costs_of_edges plan.costs (graph plan.program) (edges (graph plan.program))
   pub limits_are : within.limits ≡ caps_of_edges (graph plan.program) (edges (graph plan.program))
 
--- the multipliers of a peak fit the rows, their dual value is the peak's, and no step of its computation leaves i128
+-- the multipliers of a peak fit the rows, their dual value is the peak's, and no step of its computation leaves i128:
+-- so `by_fits` holds of them and `dual_bound` answers the value
 pub record Certifies (peak : Peak) (rows : Rows) (objective : Objective) (within : CountBox) : Type 0 where
   pub fits : FitsRows rows peak.by
   pub exact : StaysInI128 (dual_steps rows objective within peak.by)
   pub value : dual rows objective within peak.by ≡ pos peak.value
 
--- the value is the plan's optimum, the counts meet the plan's rows and cost it, and the multipliers certify it over the box from 0 to the caps
+-- the value is the plan's optimum, the counts meet the plan's rows and cost it, and the multipliers certify it over the
+-- box from 0 to the caps
 pub record IsPeakOf (plan : Planned) (peak : Peak) : Type 0 where
   pub optimum : IpetOptimum plan.program plan.costs peak.value
   pub counts : MeetFlowRows (graph plan.program) peak.counts
   pub cost : cost_of_counts plan.costs (graph plan.program) peak.counts ≡ peak.value
-  pub by : (rows : Rows) (objective : Objective) (within : CountBox) → AreOfPlan plan rows objective within → Certifies peak rows objective within
+  pub by : (rows : Rows) (objective : Objective) (within : CountBox)
+      → AreOfPlan plan rows objective within → Certifies peak rows objective within
 
 -- what is computed: the value, the counts and the multipliers of the program's part, with the divisor 1
 pub record IsComputed (plan : Planned) (peak : Peak) : Type 0 where

@@ -26,13 +26,15 @@ ghost use Rattle.ipet_rows.specs.Optimum.{MeetFlowRows, cost_of_counts, IpetOpti
 ghost use Rattle.peak_laws.specs.Answers.{peak_value, peak_counts, IsPeakDual};
 ghost use Rattle.peak_laws.specs.ProgramParts.{program_part};
 
-/// The optimum of a well-formed program is the cost of its part from its entry on, where each loop's entry pays its dearest full turns
+/// The optimum of a well-formed program (Li and Malik: the greatest cost of whole counts that meet the rows of its
+/// graph) is the cost of its part from its entry on, where each entry of a loop pays the loop's dearest full turns
 /// ahead.
 pub fn optimum_of_part()
     ensures { (p : Program) (t : Costs) → WellFormed p → IpetOptimum p t (peak_value (program_part p t)) }
 {}
 
-/// No run of a fitting input of a well-formed program costs more than the optimum (Li and Malik).
+/// No run of a fitting input of a well-formed program costs more than the optimum (Li and Malik), since the counts of
+/// its path meet the rows.
 #[tactic(auto, using(crate::proofs::Above::runs_within))]
 pub fn optimum_is_above()
     ensures { (p : Program) (t : Costs) (n : ℕ) → WellFormed p → IpetOptimum p t n → Above p t n }
@@ -41,28 +43,33 @@ pub fn optimum_is_above()
 /// The counts of the part's dearest ways meet the rows and cost the optimum.
 pub fn part_attains()
     ensures meet { (p : Program) (t : Costs) → WellFormed p → MeetFlowRows (graph p) (peak_counts (program_part p t)) }
-    ensures cost { (p : Program) (t : Costs) → WellFormed p → cost_of_counts t (graph p) (peak_counts (program_part p t)) ≡ peak_value (program_part p t) }
+    ensures cost { (p : Program) (t : Costs) → WellFormed p
+        → cost_of_counts t (graph p) (peak_counts (program_part p t)) ≡ peak_value (program_part p t) }
 {}
 
-/// The multipliers of the part, which are the dearest costs to the end and the costs of dearest full turns, fit the rows, and their dual
-/// value is the optimum, over every box whose least counts are 0. Where the graph is within the limits and each block costs less than
-/// 2^32, each step of its computation stays in `i128`.
+/// The multipliers of the part, which are the dearest costs to the end and the costs of dearest full turns, fit the
+/// rows, and their dual value is the optimum, over every box whose least counts are 0. Where the graph is within the
+/// limits and each block costs less than 2^32, each step of its computation stays in `i128`.
 pub fn part_bounds()
     ensures fits { (p : Program) (t : Costs) (rows : Rows) (objective : Objective) (within : CountBox) (by : Multipliers)
         → WellFormed p → IsPeakDual p t rows objective within by → FitsRows rows by }
     ensures value { (p : Program) (t : Costs) (rows : Rows) (objective : Objective) (within : CountBox) (by : Multipliers)
         → WellFormed p → IsPeakDual p t rows objective within by → dual rows objective within by ≡ pos (peak_value (program_part p t)) }
     ensures room { (p : Program) (t : Costs) (rows : Rows) (objective : Objective) (within : CountBox) (by : Multipliers)
-        → WellFormed p → AreSmall t → refusal (graph p) ≡ None → IsPeakDual p t rows objective within by → StaysInI128 (dual_steps rows objective within by) }
+        → WellFormed p → AreSmall t → refusal (graph p) ≡ None → IsPeakDual p t rows objective within by
+        → StaysInI128 (dual_steps rows objective within by) }
 {}
 
-/// What is computed for a plan is its peak: all that is left to the code is the value, the counts and the multipliers of the program's
-/// part. The bound by caps of a plan is at most 2^83.
+/// What is computed for a plan is its peak: all that is left to the code is the value, the counts and the multipliers
+/// of the program's part. What the caps of a plan allow is at most 2^83, so the condition on it always holds there.
 pub fn computed_is_peak()
-    ensures { (plan : Planned) (peak : Peak) → WellFormed plan.program → caps_bound plan.costs (graph plan.program) ≤ 2 ^ 97 → refusal (graph plan.program) ≡ None → IsComputed plan peak → IsPeakOf plan peak }
+    ensures { (plan : Planned) (peak : Peak) → WellFormed plan.program
+        → caps_bound plan.costs (graph plan.program) ≤ 2 ^ 97 → refusal (graph plan.program) ≡ None
+        → IsComputed plan peak → IsPeakOf plan peak }
 {}
 
-/// Worked optima: of two choices with their counts, of each kind of loop, of nested loops, and of a `do` that never turns.
+/// Worked optima: of two choices with their counts, of each kind of loop, of nested loops, and of a `do` that never
+/// turns.
 pub fn worked_peaks()
     ensures two_choices { peak_value (program_part two_thresholds two_thresholds_costs) ≡ 94 }
     ensures two_choices_counts { peak_counts (program_part two_thresholds two_thresholds_costs) ≡ 1 ∷ 1 ∷ 1 ∷ 0 ∷ 1 ∷ 1 ∷ 0 ∷ 1 ∷ 1 ∷ [] }

@@ -1,5 +1,5 @@
-//! Definitions and laws of the optimum of implicit path enumeration (Li and Malik): a program's flat graph as a tree of parts, its
-//! dearest ways, and that counts and multipliers made of them are an optimum of the rows.
+//! Definitions and laws of the optimum of implicit path enumeration (Li and Malik): a program's flat graph as a tree of
+//! parts, its dearest ways, and that counts and multipliers made of them are an optimum of the rows.
 #![tactic(auto)]
 
 mod answer;

@@ -7,17 +7,17 @@ use Rattle.ipet_peak.proofs.PushedFlows.{then_most}
 use Rattle.ipet_peak.proofs.flows.then_shares.Goals as goal
 
 pub then_second-second-requires-clause-v : goal.then_second-second-requires-clause-v
-then_second-second-requires-clause-v c = small_ways _ _ _ c.dear-v.ensures (omega (arith, c.requires.first))
+then_second-second-requires-clause-v c = small_ways _ _ _ c.dearest_ways-v.ensures (omega (arith, c.requires.first))
 
 pub then_second-second-requires-clause-w : goal.then_second-second-requires-clause-w
-then_second-second-requires-clause-w c = small_ways _ _ _ c.dear-w.ensures (omega (arith, c.requires.second))
+then_second-second-requires-clause-w c = small_ways _ _ _ c.dearest_ways-w.ensures (omega (arith, c.requires.second))
 
 pub whole-requires : goal.whole-requires
 whole-requires c =
-    omega (arith, then_most c.dear-v.result c.dear-w.result (amounts c.args.left), ap whole c.then_second-second.ensures, c.requires.left)
+    omega (arith, then_most c.dearest_ways-v.result c.dearest_ways-w.result (amounts c.args.left), ap whole c.then_second-second.ensures, c.requires.left)
 
 pub then_first-first-requires-clause-v : goal.then_first-first-requires-clause-v
-then_first-first-requires-clause-v c = small_ways _ _ _ c.dear-v.ensures (omega (arith, c.requires.first))
+then_first-first-requires-clause-v c = small_ways _ _ _ c.dearest_ways-v.ensures (omega (arith, c.requires.first))
 
 pub then_first-first-requires-clause-w : goal.then_first-first-requires-clause-w
-then_first-first-requires-clause-w c = small_ways _ _ _ c.dear-w.ensures (omega (arith, c.requires.second))
+then_first-first-requires-clause-w c = small_ways _ _ _ c.dearest_ways-w.ensures (omega (arith, c.requires.second))

@@ -5,7 +5,7 @@ use Rattle.c_tree.specs.declared.program.Func.{Func}
 use Rattle.flow_graph.proofs.Unfolded.{got_at}
 use Rattle.peak_laws.specs.Parts as spec
 use Rattle.peak_laws.specs.ProgramParts.{list_part}
-use Rattle.ipet_peak.specs.Pieces.{last_made, made, parts_above, costs_after}
+use Rattle.ipet_peak.specs.Pieces.{last_part, stack_after, parts_above, costs_after}
 use Rattle.ipet_peak.specs.Trees.{part_of, parts_of}
 use Rattle.ipet_peak.proofs.TreeLayers.{part-Nothing}
 use Rattle.ipet_peak.proofs.PartSteps.{none_at, parts_length}
@@ -30,5 +30,5 @@ func_tree-returns t c =
     let f = c.index-funcs-func.result in
     let got = got_at a.funcs.now a.func f c.requires c.index-funcs-func.is in
     let p = list_part qs (costs_after a.costs.now above) c.as_slice.result.now 0 false in
-    let ends = ap (λ xs. made qs xs (parts_of c.pieces.trees)) (sym c.in_default.ensures.0) ∙ c.pieces.invariant ∙ c.in_ok-list_pieces.ensures.pieces [] ∙ ap (λ xs. made qs xs (p ∷ [])) c.new-pieces.ensures in
-    grown a.costs.now a.funcs.now above a.func f c.as_slice.result.now (part_of c.take_last.result) got (λ i. above) c.requires (c.as_slice.ensures ∙ ap (λ (y : Func). y.body) (sym c.index-funcs-func.is)) (c.take_last.ensures.last ∙ ap last_made ends)
+    let ends = ap (λ xs. stack_after qs xs (parts_of c.pieces.trees)) (sym c.in_default.ensures.0) ∙ c.pieces.invariant ∙ c.in_ok-list_pieces.ensures.pieces [] ∙ ap (λ xs. stack_after qs xs (p ∷ [])) c.new-pieces.ensures in
+    grown a.costs.now a.funcs.now above a.func f c.as_slice.result.now (part_of c.take_last.result) got (λ i. above) c.requires (c.as_slice.ensures ∙ ap (λ (y : Func). y.body) (sym c.index-funcs-func.is)) (c.take_last.ensures.last ∙ ap last_part ends)

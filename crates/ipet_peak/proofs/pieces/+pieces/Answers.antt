@@ -8,7 +8,7 @@ use Rattle.flow_graph.proofs.Laid.{if_ok}
 use Rattle.flow_graph.proofs.Sums.{drop_is}
 use Rattle.peak_laws.specs.Parts as spec
 use Rattle.peak_laws.specs.ProgramParts.{list_part}
-use Rattle.ipet_peak.specs.Pieces.{made, parts_above, costs_after}
+use Rattle.ipet_peak.specs.Pieces.{stack_after, parts_above, costs_after}
 use Rattle.ipet_peak.proofs.PartSteps.{at_first, simple_step, plain_step, reread, at_last, for_is}
 use Rattle.ipet_peak.proofs.pieces.+pieces.Goals as goal
 use Rattle.ipet_peak.proofs.pieces.+pieces.Goals.{list_pieces-then-is_simple, list_pieces-else-is_simple+in_ok-put+in_ok-here+in_ok-put-2+in_ok-block}
@@ -85,4 +85,4 @@ stmt_pieces-returns-in_ok-inner-in-For-clause-pieces t c =
     let w = spec.While c.cost_of-in-For.result c.saturating_sub-spare-in-For.result c.held_step-each.result x in
     let first = list_part qs cost (held f.first) a.at false in
     let is = for_is qs cost a.stmt.now f.bound f.first f.step f.field-2 f.body c.as_slice-in-For.result.now a.at c.in_ok-test-in-For.test c.in_ok-after-in-For.after c.in_ok-inner-in-For.inner c.in_ok-held_blocks-in-For.field-0 c.cost_of-in-For.result c.saturating_sub-spare-in-For.result c.held_step-each.result f.is c.as_slice-in-For.ensures c.in_ok-test-in-For.ensures.block c.in_ok-after-in-For.ensures c.in_ok-inner-in-For.ensures c.in_ok-held_blocks-in-For.ensures c.cost_of-in-For.ensures c.saturating_sub-spare-in-For.ensures c.held_step-each.ensures in
-    if_ok c.list_pieces-in-For.result _ _ (λ b h ps. h ps ∙ c.in_ok-put-in-For-2.ensures qs (x ∷ ps) ∙ c.in_ok-test-in-For.ensures.pieces (w ∷ ps) ∙ c.in_ok-put-in-For.ensures qs (first ∷ (w ∷ ps)) ∙ ap (λ p. made qs a.out.now (p ∷ ps)) is) c.list_pieces-in-For.ensures.pieces
+    if_ok c.list_pieces-in-For.result _ _ (λ b h ps. h ps ∙ c.in_ok-put-in-For-2.ensures qs (x ∷ ps) ∙ c.in_ok-test-in-For.ensures.pieces (w ∷ ps) ∙ c.in_ok-put-in-For.ensures qs (first ∷ (w ∷ ps)) ∙ ap (λ p. stack_after qs a.out.now (p ∷ ps)) is) c.list_pieces-in-For.ensures.pieces

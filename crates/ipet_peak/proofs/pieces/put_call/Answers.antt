@@ -3,7 +3,7 @@ use Rattle.std.proofs.Common.{[], ◌∷◌, ap, ◌∙◌, arith}
 use Rattle.std.specs.Prelude.{slice_get, unwrap_or}
 use Rattle.peak_laws.specs.declared.ways.Leaving.TheVariants as leaving
 use Rattle.peak_laws.specs.Parts as spec
-use Rattle.ipet_peak.specs.Pieces.{made, parts_above, costs_after}
+use Rattle.ipet_peak.specs.Pieces.{stack_after, parts_above, costs_after}
 use Rattle.ipet_peak.proofs.PartSteps.{some_at, none_at, parts_length, call_some, call_none}
 use Rattle.ipet_peak.proofs.pieces.put_call.Goals as goal
 use Rattle.ipet_peak.proofs.pieces.put_call.Goals.{then-callee-scope+in_ok-put-2+in_ok-put-3, else-callee-scope}
@@ -18,7 +18,7 @@ returns-clause-pieces c ps =
     c.in_ok-put-4.ensures qs ps ∙ elim c.if-callee-scope.branch [
       | then-callee-scope+in_ok-put-2+in_ok-put-3 g ↦
           let body = spec.Body (unwrap_or o spec.Nothing) in
-          ap (λ xs. made qs xs (land ∷ ps)) g.out-is ∙ g.in_ok-put-3.ensures qs (land ∷ ps) ∙ g.in_ok-put-2.ensures qs (body ∷ (land ∷ ps)) ∙ c.in_ok-block.ensures.pieces qs (spec.Then body land ∷ ps) ∙ c.in_ok-put.ensures qs (spec.Block w leaving.ByEnd ∷ (spec.Then body land ∷ ps)) ∙ ap (λ p. made qs c.args.out.now (p ∷ ps)) (call_some o w (some_at qs c.args.callee (omega (arith, long, g.if-callee-scope.true))))
+          ap (λ xs. stack_after qs xs (land ∷ ps)) g.out-is ∙ g.in_ok-put-3.ensures qs (land ∷ ps) ∙ g.in_ok-put-2.ensures qs (body ∷ (land ∷ ps)) ∙ c.in_ok-block.ensures.pieces qs (spec.Then body land ∷ ps) ∙ c.in_ok-put.ensures qs (spec.Block w leaving.ByEnd ∷ (spec.Then body land ∷ ps)) ∙ ap (λ p. stack_after qs c.args.out.now (p ∷ ps)) (call_some o w (some_at qs c.args.callee (omega (arith, long, g.if-callee-scope.true))))
       | else-callee-scope g ↦
-          ap (λ xs. made qs xs (land ∷ ps)) g.out-is ∙ c.in_ok-block.ensures.pieces qs (land ∷ ps) ∙ c.in_ok-put.ensures qs (spec.Block w leaving.ByEnd ∷ (land ∷ ps)) ∙ ap (λ p. made qs c.args.out.now (p ∷ ps)) (call_none o w (none_at qs c.args.callee (omega (arith, long, g.if-callee-scope.false))))
+          ap (λ xs. stack_after qs xs (land ∷ ps)) g.out-is ∙ c.in_ok-block.ensures.pieces qs (land ∷ ps) ∙ c.in_ok-put.ensures qs (spec.Block w leaving.ByEnd ∷ (land ∷ ps)) ∙ ap (λ p. stack_after qs c.args.out.now (p ∷ ps)) (call_none o w (none_at qs c.args.callee (omega (arith, long, g.if-callee-scope.false))))
     ]

@@ -2,15 +2,16 @@
 use Rattle.std.specs.Prelude.{◌≤◌, ℕ, ◌+◌, ◌*◌, List, [], ◌∷◌, ◌++◌, Option, Some, None}
 use Rattle.peak_laws.specs.Parts.{Part, Nothing, Block, Then, Choice, While, Do, Body, Ways, step_cost}
 
--- the sum over the nodes of the cost times how often the node can be reached, where the part is entered once
-abbrev pub heft : Part → ℕ
-heft Nothing = 0
-heft (Block c l) = c
-heft (Then p q) = heft p + heft q
-heft (Choice c p q) = c + (heft p + heft q)
-heft (While c m s p) = (m + 2) * c + (m + 1) * (step_cost s + heft p)
-heft (Do c m p) = (m + 1) * (c + heft p)
-heft (Body p) = heft p
+-- what the caps allow: the sum over the nodes of the cost times how often the node can be reached, where the part is
+-- entered once
+abbrev pub cap_cost : Part → ℕ
+cap_cost Nothing = 0
+cap_cost (Block c l) = c
+cap_cost (Then p q) = cap_cost p + cap_cost q
+cap_cost (Choice c p q) = c + (cap_cost p + cap_cost q)
+cap_cost (While c m s p) = (m + 2) * c + (m + 1) * (step_cost s + cap_cost p)
+cap_cost (Do c m p) = (m + 1) * (c + cap_cost p)
+cap_cost (Body p) = cap_cost p
 
 -- how many loops
 abbrev pub loop_count : Part → ℕ
@@ -23,14 +24,14 @@ loop_count (Do c m p) = 1 + loop_count p
 loop_count (Body p) = loop_count p
 
 -- by how much a potential can exceed what is ahead
-abbrev pub reach : Part → ℕ
-reach Nothing = 0
-reach (Block c l) = c
-reach (Then p q) = reach p + reach q
-reach (Choice c p q) = c + (reach p + reach q)
-reach (While c m s p) = step_cost s + (heft (While c m s p) + reach p)
-reach (Do c m p) = 2 * heft (Do c m p) + reach p
-reach (Body p) = reach p
+abbrev pub excess : Part → ℕ
+excess Nothing = 0
+excess (Block c l) = c
+excess (Then p q) = excess p + excess q
+excess (Choice c p q) = c + (excess p + excess q)
+excess (While c m s p) = step_cost s + (cap_cost (While c m s p) + excess p)
+excess (Do c m p) = 2 * cap_cost (Do c m p) + excess p
+excess (Body p) = excess p
 
 -- how often each node can be reached, where the part is entered k times
 abbrev pub step_caps : Option ℕ → ℕ → List ℕ
@@ -47,17 +48,17 @@ node_caps (Do c m p) k = node_caps p (k * (m + 1)) ++ ((k * (m + 1)) ∷ [])
 node_caps (Body p) k = node_caps p k
 
 -- each way costs at most x
-abbrev pub Most : Option ℕ → ℕ → Type 0
-Most None x = Unit {0}
-Most (Some d) x = d ≤ x
+abbrev pub WayIsAtMost : Option ℕ → ℕ → Type 0
+WayIsAtMost None x = Unit {0}
+WayIsAtMost (Some d) x = d ≤ x
 
-pub record AllMost (a : Ways) (x : ℕ) : Type 0 where
-  pub next : Most a.next x
-  pub breaks : Most a.breaks x
-  pub continues : Most a.continues x
-  pub returns : Most a.returns x
+pub record WaysAreAtMost (a : Ways) (x : ℕ) : Type 0 where
+  pub next : WayIsAtMost a.next x
+  pub breaks : WayIsAtMost a.breaks x
+  pub continues : WayIsAtMost a.continues x
+  pub returns : WayIsAtMost a.returns x
 
 -- each number is at most x
-abbrev pub EachMost : ℕ → List ℕ → Type 0
-EachMost x [] = Unit {0}
-EachMost x (n ∷ ns) = (n ≤ x) × EachMost x ns
+abbrev pub EachIsAtMost : ℕ → List ℕ → Type 0
+EachIsAtMost x [] = Unit {0}
+EachIsAtMost x (n ∷ ns) = (n ≤ x) × EachIsAtMost x ns
