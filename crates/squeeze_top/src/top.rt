@@ -99,7 +99,8 @@ fn refuse<K: Sink>(alloc: Global, out: &mut K, refusal: &Refusal) -> Status
 /// the first refusal. `rt` and `gate` are for modes with workers, of which there is none today.
 ///
 /// The words are `MODE FILE`, and then, where they are given, `--costs NAME`, `--entry NAME` and `--input TEXT`, in this
-/// order; no name and no text begins with `-`. The modes are `bound`, which writes a bound of the program;
+/// order; no name and no text begins with `-`. The modes are `bound`, which writes the optimum of implicit path
+/// enumeration (Li and Malik), which no run exceeds; `ipet`, which writes how many block copies there are and the optimum;
 /// `blocks`, which writes each block with its cost; `run`, which writes how the run on the input ends; and `print`, which
 /// writes the program. Without `--costs` each block costs 1; the entry is `main` where none is named, and the input is empty
 /// where none is given.
