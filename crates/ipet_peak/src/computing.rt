@@ -1,6 +1,7 @@
 //! The peak of a plan, from the tree of its program.
 
 ghost use Rattle.std.specs.Prelude.{◌≡◌, ◌≤◌, ◌^◌, pos, IfOk};
+ghost use Rattle.c_tree.specs.Claims.{Above};
 ghost use Rattle.peak_laws.specs.Answers.{peak_value, peak_counts, peak_multipliers};
 ghost use Rattle.peak_laws.specs.Magnitudes.{cap_cost, excess};
 ghost use Rattle.ipet_peak.specs.Trees.{part_of, FitsCaps};
@@ -52,13 +53,14 @@ pub(crate) fn peak_of_tree(alloc: Global, tree: &Tree) -> Result<Peak, NoMemory>
 
 /// The peak of a plan (Li and Malik): the greatest cost of whole counts that meet the plan's own rows, in the unit of
 /// the cost table; counts that meet them and cost it; and multipliers whose dual value over the box from 0 to the caps
-/// is the same number. No rows that were added to the plan's are looked at.
+/// is the same number. No rows that were added to the plan's are looked at. No run of a fitting input costs more.
 ///
 /// It is refused for want of memory alone. Counts come by multiplication: no loop is walked through. Its time grows
 /// with the edges times the height of the tree of parts, in which a list of statements is as high as it is long, and
 /// with the text of each callee times the calls of it.
 pub fn peak(alloc: Global, plan: &Plan) -> Result<Peak, NoMemory>
-    ensures { IfOk result (λ peak. IsPeakOf plan.now peak) }
+    ensures peak { IfOk result (λ peak. IsPeakOf plan.now peak) }
+    ensures above { IfOk result (λ peak. Above plan.now.program plan.now.costs peak.value) }
 {
     // Its number is not used: its clauses say that the costs leave room for what follows.
     let _bound = caps_bound(plan);

@@ -11,7 +11,6 @@ use c_tree::{Func, Input, NoMemory};
 use flow_graph::Plan;
 use ipet_peak::peak;
 use itoa::Buffer;
-use peak_laws::optimum_is_above;
 use sqlite_items::Items;
 use std::alloc::{AllocError, Global};
 
@@ -50,7 +49,6 @@ pub(crate) fn text_of_task(alloc: Global, task: &Task, plan: &Plan) -> Result<Ve
 fn bound_answer(alloc: Global, plan: &Plan) -> Result<Vec<u8>, NoMemory>
     ensures { IfOk result (λ text. spec.TellsBound plan.now.program plan.now.costs text.items) }
 {
-    optimum_is_above();
     let peak = peak(alloc, plan)?;
     Ok(bound_line(alloc, peak.value)?)
 }
@@ -58,7 +56,6 @@ fn bound_answer(alloc: Global, plan: &Plan) -> Result<Vec<u8>, NoMemory>
 fn ipet_answer(alloc: Global, plan: &Plan) -> Result<Vec<u8>, NoMemory>
     ensures { IfOk result (λ text. spec.TellsPeak plan.now.program plan.now.costs text.items) }
 {
-    optimum_is_above();
     let peak = peak(alloc, plan)?;
     Ok(ipet_lines(alloc, plan.copies(), peak.value)?)
 }
