@@ -15,4 +15,5 @@ pub mod Drawn
 pub mod Leaving
 pub mod Landed
 pub mod Measured
+pub mod Touched
 pub mod Worked

@@ -5,6 +5,7 @@ pub mod Layout
 pub mod Joints
 pub mod Leaving
 pub mod Spans
+pub mod Touches
 pub mod Landings
 pub mod Plans
 pub mod Worked

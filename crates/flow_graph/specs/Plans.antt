@@ -13,10 +13,12 @@ use Rattle.flow_laws.specs.Paths.{keeps_each, cost_of_block}
 use Rattle.flow_graph.specs.declared.onward.Outs.{Outs}
 use Rattle.flow_graph.specs.declared.interval.Span.{Span}
 use Rattle.flow_graph.specs.declared.spot.Spot.{Spot}
+use Rattle.flow_graph.specs.declared.touch.Touch.{Touch}
 use Rattle.flow_graph.specs.Limits.{refusal, block_copies}
 use Rattle.flow_graph.specs.Leaving.{all_outs}
 use Rattle.flow_graph.specs.Spans.{span_of}
 use Rattle.flow_graph.specs.Spots.{spots}
+use Rattle.flow_graph.specs.Touches.{all_touches}
 
 -- what is planned
 pub record Planned : Type 0 where
@@ -33,7 +35,7 @@ pub record IsPlanned (plan : Planned) : Type 0 where
   pub allowed : refusal (graph plan.program) ≡ None
 
 -- the lists that a plan owns are those of the graph, and nothing refuses it
-pub record IsPlan (p : Program) (t : Costs) (laid : List Spot) (es : List Edge) (outs : List Outs) (ls : List Loop) (spans : List Span) (copies : ℕ) : Type 0 where
+pub record IsPlan (p : Program) (t : Costs) (laid : List Spot) (es : List Edge) (outs : List Outs) (ls : List Loop) (spans : List Span) (touches : List (List Touch)) (copies : ℕ) : Type 0 where
   pub formed : WellFormed p
   pub costed : AreCostsOf p t
   pub allowed : refusal (graph p) ≡ None
@@ -42,6 +44,7 @@ pub record IsPlan (p : Program) (t : Costs) (laid : List Spot) (es : List Edge) 
   pub outs_are : outs ≡ all_outs 0 (spots (graph p))
   pub loops_are : ls ≡ loops (graph p)
   pub spans_are : spans ≡ map span_of (loop_copies (graph p))
+  pub touches_are : touches ≡ all_touches (loops (graph p)) 0 (edges (graph p))
   pub copies_are : copies ≡ block_copies (graph p)
 
 -- the list names only edges, and keeps each loop's bound

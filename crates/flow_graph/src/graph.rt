@@ -13,9 +13,10 @@ ghost use Rattle.flow_graph.specs.Plans.{IsPlan, IsPlanned, planned, keeps_all};
 ghost use Rattle.flow_graph.specs.Spans.{span_of};
 
 use crate::interval::Span;
-use crate::lists::{edge_cost, follows, keeps_each, names_edges};
+use crate::lists::{edge_cost, follows};
 use crate::onward::Outs;
 use crate::spot::Spot;
+use crate::touch::{Touch, keeps_all};
 use c_tree::{BlockName, Costs, Program};
 use flow_laws::{Edge, Loop, Node};
 use sqlite_items::Items;
@@ -33,6 +34,7 @@ pub struct Plan {
     outs: Items<Outs>,
     loops: Items<Loop>,
     spans: Items<Span>,
+    touches: Items<Items<Touch>>,
     copies: u32,
 }
 
@@ -48,7 +50,7 @@ impl Model for Plan {
 
     ghost view = { λ p. planned p.program p.costs };
 
-    ghost invariant = { λ p. IsPlan p.program p.costs p.spots p.edges p.outs p.loops p.spans p.copies };
+    ghost invariant = { λ p. IsPlan p.program p.costs p.spots p.edges p.outs p.loops p.spans p.touches p.copies };
 }
 
 impl Plan {
@@ -61,9 +63,10 @@ impl Plan {
         outs: Items<Outs>,
         loops: Items<Loop>,
         spans: Items<Span>,
+        touches: Items<Items<Touch>>,
         copies: u32,
     ) -> Plan
-        requires { IsPlan program costs spots edges outs loops spans copies }
+        requires { IsPlan program costs spots edges outs loops spans touches copies }
         ensures { result ≡ planned program costs }
     {
         Plan {
@@ -74,6 +77,7 @@ impl Plan {
             outs,
             loops,
             spans,
+            touches,
             copies,
         }
     }
@@ -184,10 +188,11 @@ impl Plan {
     }
 
     /// Whether the list names only edges and keeps every loop's bound: after each edge that enters a loop copy from outside,
-    /// up to the next one, it has the `True` of the loop's condition at most as often as its bound says; of `do`, once less.
+    /// up to the next one, it has the `True` of the loop's condition at most as often as its bound says; of `do`, once less. One
+    /// pass over the list with a counter for each loop: at each edge it looks at the loops that the edge enters or turns.
     pub fn keeps(&self, list: &[u16]) -> bool
         ensures { result ≡ keeps_all (graph self.now.program) list.now }
     {
-        names_edges(self.edges.len(), list) && keeps_each(self.loops.as_slice(), list)
+        keeps_all(self.touches.as_slice(), list)
     }
 }

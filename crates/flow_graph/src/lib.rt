@@ -12,6 +12,7 @@ mod lists;
 mod onward;
 mod planning;
 mod spot;
+mod touch;
 mod unfold;
 
 pub use fault::PlanFault;

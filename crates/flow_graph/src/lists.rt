@@ -1,14 +1,13 @@
-//! Lists of edges: whether they follow one another, whether they keep the bounds of loops, and what they cost.
+//! Lists of edges: whether they follow one another, and what an edge costs.
 
-ghost use Rattle.std.specs.Prelude.{◌≡◌, ◌<◌, ◌^◌, ◌&&◌, nat_lt, slice_get};
-ghost use Rattle.std.specs.List.{list_all};
+ghost use Rattle.std.specs.Prelude.{◌≡◌, ◌<◌, ◌^◌, slice_get};
 ghost use Rattle.c_tree.specs.Claims.{block_cost};
-ghost use Rattle.flow_laws.specs.Paths.{follows, keeps, keeps_each};
+ghost use Rattle.flow_laws.specs.Paths.{follows};
 ghost use Rattle.flow_graph.specs.Plans.{cost_of_source};
 
 use crate::spot::Spot;
 use c_tree::{BlockName, Costs};
-use flow_laws::{Edge, Loop};
+use flow_laws::Edge;
 
 pub(crate) fn follows(edges: &[Edge], list: &[u16]) -> bool
     ensures { result ≡ follows edges.now list.now }
@@ -30,43 +29,6 @@ fn edge_at(edges: &[Edge], number: u16) -> Option<Edge>
     ensures { result ≡ slice_get edges.now number }
 {
     edges.get(number as usize).copied()
-}
-
-/// Whether each number of the list is below `edges`.
-pub(crate) fn names_edges(edges: usize, list: &[u16]) -> bool
-    ensures { result ≡ list_all (λ j. nat_lt j edges) list.now }
-{
-    list.iter().all(|number| (*number as usize) < edges)
-}
-
-pub(crate) fn keeps_each(loops: &[Loop], list: &[u16]) -> bool
-    ensures { result ≡ keeps_each loops.now list.now }
-{
-    for l in loops {
-        if !keeps(l, list) {
-            return false;
-        }
-    }
-    true
-}
-
-// `left` has the turns that are left of a loop, once it was entered.
-fn keeps(l: &Loop, list: &[u16]) -> bool
-    ensures { result ≡ keeps l.now list.now }
-{
-    let mut left: Option<u32> = None;
-    for number in list {
-        if l.is_entered_by(*number) {
-            left = Some(l.most_turns());
-        } else if *number == l.turn {
-            match left {
-                None => {}
-                Some(0) => return false,
-                Some(turns) => left = Some(turns - 1),
-            }
-        }
-    }
-    true
 }
 
 /// The cost of the block of an edge's source.

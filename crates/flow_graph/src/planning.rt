@@ -18,6 +18,7 @@ use crate::joints::{edges_of, first_above, loops_of};
 use crate::layout::EACH;
 use crate::onward::outs_by_node;
 use crate::spot::Spot;
+use crate::touch::touches_by_edge;
 use crate::unfold::lay_out;
 use c_tree::{Costs, NoMemory, Program};
 use sqlite_items::Items;
@@ -55,7 +56,10 @@ pub fn plan(alloc: Global, program: Program, costs: Costs) -> Result<Plan, PlanF
     let loops = loops_of(alloc, spots.as_slice(), edges.as_slice())?;
     let outs = outs_by_node(alloc, spots.as_slice())?;
     let spans = spans_of(alloc, spots.as_slice())?;
-    Ok(Plan::of_graph(program, costs, spots, edges, outs, loops, spans, copies))
+    let touches = touches_by_edge(alloc, edges.as_slice(), loops.as_slice())?;
+    Ok(Plan::of_graph(
+        program, costs, spots, edges, outs, loops, spans, touches, copies,
+    ))
 }
 
 // How many block copies there are, where they and the edges are not too many.
