@@ -8,4 +8,4 @@ mod made;
 mod standing;
 
 pub use check::accepts;
-pub use law::accepted_has_no_solution;
+pub use law::{accepted_has_no_solution, teaching_is_new, worked_is_short, worked_needs_closed};
