@@ -1,15 +1,15 @@
 -- The lines of a text, one after another.
-use Rattle.std.proofs.Common.{◌≡◌, ℕ, ◌+◌, ◌<◌, Bool, true, false, not, ◌&&◌, ◌⊎◌, ◌==◌, eqb-true, List, [], ◌∷◌, ◌++◌, length, filter, refl, sym, ◌∙◌, ap, arith, append_assoc, length-append, inl, inr}
-use Rattle.std.specs.List.{list_all, flat_map}
-use Rattle.std.proofs.lemmas.Bool.{false≢true}
+use Rattle.std.proofs.Common.{◌≡◌, ℕ, ◌<◌, Bool, true, false, not, ◌⊎◌, ◌==◌, List, [], ◌∷◌, ◌++◌, length, filter, refl, sym, ◌∙◌, ap, arith, append_assoc, length-append, inl, inr}
+use Rattle.std.specs.List.{flat_map}
 use Rattle.std.proofs.lemmas.List.{append-nil}
 use Rattle.std.proofs.lemmas.List.Concat.{flat_map-append}
 use Rattle.std.proofs.lemmas.List.Elements.{filter-append}
 use Rattle.std.proofs.lemmas.List.Folds.{list_all-append}
-use Rattle.cnf_form.specs.Lines.{lines_of}
+use Rattle.text_lines.specs.Lines.{lines_of}
 use Rattle.cnf_form.specs.Forms.{is_gap, pieces, has_bytes, words, begins_with, told_lines}
-use Rattle.cnf_form.specs.Passing.{HasNoFeed, EndsInFeed, IsUnfinished, AreLines, AreComments, AreClauseLines, IsHead}
-use Rattle.cnf_form.proofs.Wording.{and_true, not_true}
+use Rattle.text_lines.specs.Cutting.{HasNoFeed, EndsInFeed, IsUnfinished, AreLines, Anything}
+use Rattle.cnf_form.specs.Passing.{AreComments, AreClauseLines, IsHead}
+use Rattle.text_lines.proofs.Joining.{lines_feed, Feeds, feeds, not_both, single, Joins, joins_feed, joins_end}
 
 -- ---- words and lines at a line feed
 
@@ -32,34 +32,6 @@ pieces_feed (x ∷ xs) ys = by_gap (is_gap x) refl (pieces_feed xs ys) (pieces_s
 pub words_feed : (xs ys : List ℕ) → words (xs ++ 10 ∷ ys) ≡ words xs ++ words ys
 words_feed xs ys = ap (filter has_bytes) (pieces_feed xs ys) ∙ filter-append has_bytes (pieces xs) (pieces ys)
 
-lines_feed : (xs ys : List ℕ) → HasNoFeed xs → lines_of (xs ++ 10 ∷ ys) ≡ (xs ++ 10 ∷ []) ∷ lines_of ys
-lines_feed [] ys no_feed = refl
-lines_feed (x ∷ xs) ys no_feed =
-    let parts = and_true (not (x == 10)) (list_all (λ b. not (b == 10)) xs) no_feed in
-    rw (not_true (x == 10) parts.0, lines_feed xs ys parts.1) refl
-
-lines_single : (x : ℕ) (xs : List ℕ) → HasNoFeed (x ∷ xs) → lines_of (x ∷ xs) ≡ (x ∷ xs) ∷ []
-lines_single x [] no_feed = rw (not_true (x == 10) (and_true (not (x == 10)) true no_feed).0) refl
-lines_single x (y ∷ ys) no_feed =
-    let parts = and_true (not (x == 10)) (list_all (λ b. not (b == 10)) (y ∷ ys)) no_feed in
-    rw (not_true (x == 10) parts.0, lines_single y ys parts.1) refl
-
--- a text up to its first line feed
-record Feeds (text : List ℕ) : Type 0 where
-  visible : List ℕ
-  rest : List ℕ
-  no_feed : HasNoFeed visible
-  is : text ≡ visible ++ 10 ∷ rest
-
-feeds : (text : List ℕ) → HasNoFeed text ⊎ Feeds text
-feeds [] = inl refl
-feeds (b ∷ bs) = by_first (b == 10) refl (feeds bs)
-  where
-    by_first : (g : Bool) → (b == 10) ≡ g → HasNoFeed bs ⊎ Feeds bs → HasNoFeed (b ∷ bs) ⊎ Feeds (b ∷ bs)
-    by_first true e rest = inr (record { visible = []; rest = bs; no_feed = refl; is = ap (λ c. c ∷ bs) (eqb-true b 10 e) })
-    by_first false e (inl no_feed) = inl (rw e no_feed)
-    by_first false e (inr more) = inr (record { visible = b ∷ more.visible; rest = more.rest; no_feed = rw e more.no_feed; is = ap (λ t. b ∷ t) more.is })
-
 -- the first line that is told
 pub record NextTold (line more : List ℕ) : Type 0 where
   pub ending : List ℕ
@@ -71,18 +43,6 @@ pub begins_on : (c : ℕ) (line more : List ℕ) → 0 < length line → begins_
 begins_on c [] more some = absurd (omega (arith, some))
 begins_on c (b ∷ bs) more some = refl
 
-pub not_both : (line : List ℕ) → EndsInFeed line → IsUnfinished line → ⊥
-not_both line ends unfinished =
-    let split : (list_all (λ b. not (b == 10)) ends.visible && false) ≡ true = sym (list_all-append (λ b. not (b == 10)) ends.visible (10 ∷ [])) ∙ ap (list_all (λ b. not (b == 10))) (sym ends.is) ∙ unfinished.no_feed in
-    false≢true (sym (and_false (list_all (λ b. not (b == 10)) ends.visible)) ∙ split)
-  where
-    and_false : (a : Bool) → (a && false) ≡ false
-    and_false true = refl
-    and_false false = refl
-
-pub some_line : (line : List ℕ) → EndsInFeed line → 0 < length line
-some_line line ends = omega (arith, ap length ends.is, length-append ends.visible (10 ∷ []))
-
 told_first : (line : List ℕ) (first : List ℕ) (rest : List (List ℕ)) (text : List ℕ) → lines_of text ≡ first ∷ rest → begins_with 99 first ≡ false → told_lines text ≡ first ∷ filter (λ line. not (begins_with 99 line)) rest
 told_first line first rest text lines plain = rw (lines, plain) refl
 
@@ -92,10 +52,6 @@ next_told line more (inl ends) plain =
     record { ending = []; rest = more; told = told_first line line (lines_of more) (line ++ more) lines plain ∙ ap (λ l. l ∷ told_lines more) (sym (append-nil line)); closed = λ e. refl }
 next_told line more (inr unfinished) plain = by_more (feeds more)
   where
-    single : (text : List ℕ) → 0 < length text → HasNoFeed text → lines_of text ≡ text ∷ []
-    single [] some no_feed = absurd (omega (arith, some))
-    single (b ∷ bs) some no_feed = lines_single b bs no_feed
-
     joined : (ys : List ℕ) → HasNoFeed ys → HasNoFeed (line ++ ys)
     joined ys no_feed = list_all-append (λ b. not (b == 10)) line ys ∙ rw (unfinished.no_feed, no_feed) refl
 
@@ -112,89 +68,68 @@ next_told line more (inr unfinished) plain = by_more (feeds more)
 
 -- ---- one more line
 
--- a line, before what may follow it
-pub record Joins (May : List ℕ → Type 0) (line : List ℕ) : Type 0 where
-  pub lines : (more : List ℕ) → May more → lines_of (line ++ more) ≡ line ∷ lines_of more
+-- a line, before what may follow it, and its words before those that follow
+pub record Follows (May : List ℕ → Type 0) (line : List ℕ) : Type 0 where
+  pub joins : Joins May line
   pub word : (more : List ℕ) → May more → words (line ++ more) ≡ words line ++ words more
-  pub alone : lines_of line ≡ line ∷ []
-  pub some : 0 < length line
 
-pub joins_feed : (May : List ℕ → Type 0) (line : List ℕ) → EndsInFeed line → Joins May line
-joins_feed May line ends = record {
-  lines = λ more may. ap (λ l. lines_of (l ++ more)) ends.is ∙ ap lines_of (append_assoc ends.visible (10 ∷ []) more) ∙ lines_feed ends.visible more ends.no_feed ∙ ap (λ l. l ∷ lines_of more) (sym ends.is);
+pub follows_feed : (May : List ℕ → Type 0) (line : List ℕ) → EndsInFeed line → Follows May line
+follows_feed May line ends = record {
+  joins = joins_feed May line ends;
   word = λ more may. ap (λ l. words (l ++ more)) ends.is ∙ ap words (append_assoc ends.visible (10 ∷ []) more) ∙ words_feed ends.visible more ∙ ap (λ ws. ws ++ words more) (sym (append-nil (words ends.visible)) ∙ sym (words_feed ends.visible []) ∙ ap words (sym ends.is));
-  alone = ap lines_of ends.is ∙ lines_feed ends.visible [] ends.no_feed ∙ ap (λ l. l ∷ []) (sym ends.is);
-  some = some_line line ends;
 }
 
-pub joins_end : (May : List ℕ → Type 0) (line : List ℕ) → IsUnfinished line → ((more : List ℕ) → May more → more ≡ []) → Joins May line
-joins_end May line unfinished last = record {
-  lines = λ more may. ap (λ m. lines_of (line ++ m)) (last more may) ∙ ap lines_of (append-nil line) ∙ single line unfinished.some unfinished.no_feed ∙ ap (λ m. line ∷ lines_of m) (sym (last more may));
+pub follows_end : (May : List ℕ → Type 0) (line : List ℕ) → IsUnfinished line → ((more : List ℕ) → May more → more ≡ []) → Follows May line
+follows_end May line unfinished last = record {
+  joins = joins_end May line unfinished last;
   word = λ more may. ap (λ m. words (line ++ m)) (last more may) ∙ ap words (append-nil line) ∙ sym (append-nil (words line)) ∙ ap (λ m. words line ++ words m) (sym (last more may));
-  alone = single line unfinished.some unfinished.no_feed;
-  some = unfinished.some;
-}
-  where
-    single : (text : List ℕ) → 0 < length text → HasNoFeed text → lines_of text ≡ text ∷ []
-    single [] some no_feed = absurd (omega (arith, some))
-    single (b ∷ bs) some no_feed = lines_single b bs no_feed
-
--- anything may follow
-abbrev pub Anything : List ℕ → Type 0
-Anything more = Unit {0}
-
-pub one_line : (May : List ℕ → Type 0) (before line : List ℕ) (n : ℕ) → AreLines Anything before n → Joins May line → AreLines May (before ++ line) (n + 1)
-one_line May before line n lines joins = record {
-  count = ap length (lines.whole line tt ∙ ap (λ ls. lines_of before ++ ls) joins.alone) ∙ length-append (lines_of before) (line ∷ []) ∙ ap (λ k. k + 1) lines.count;
-  whole = λ more may. ap lines_of (append_assoc before line more) ∙ lines.whole (line ++ more) tt ∙ ap (λ ls. lines_of before ++ ls) (joins.lines more may)
-      ∙ sym (append_assoc (lines_of before) (line ∷ []) (lines_of more)) ∙ ap (λ ls. ls ++ lines_of more) (sym (lines.whole line tt ∙ ap (λ ls. lines_of before ++ ls) joins.alone));
 }
 
 pub told_with : (May : List ℕ → Type 0) (before more : List ℕ) (n : ℕ) → AreLines May before n → May more → told_lines (before ++ more) ≡ told_lines before ++ told_lines more
 told_with May before more n lines may = ap (filter (λ line. not (begins_with 99 line))) (lines.whole more may) ∙ filter-append (λ line. not (begins_with 99 line)) (lines_of before) (lines_of more)
 
-told_comment : (May : List ℕ → Type 0) (line : List ℕ) → Joins May line → begins_with 99 line ≡ true → told_lines line ≡ []
-told_comment May line joins comment = rw (joins.alone, comment) refl
+told_comment : (May : List ℕ → Type 0) (line : List ℕ) → Follows May line → begins_with 99 line ≡ true → told_lines line ≡ []
+told_comment May line follows comment = rw (follows.joins.alone, comment) refl
 
-pub told_plain : (May : List ℕ → Type 0) (line : List ℕ) → Joins May line → begins_with 99 line ≡ false → told_lines line ≡ line ∷ []
-told_plain May line joins plain = rw (joins.alone, plain) refl
+pub told_plain : (May : List ℕ → Type 0) (line : List ℕ) → Follows May line → begins_with 99 line ≡ false → told_lines line ≡ line ∷ []
+told_plain May line follows plain = rw (follows.joins.alone, plain) refl
 
-pub one_comment : (May : List ℕ → Type 0) (before line : List ℕ) (n : ℕ) → AreLines Anything before n → Joins May line → begins_with 99 line ≡ true → AreComments before → AreComments (before ++ line)
-one_comment May before line n lines joins comment comments = record {
-  told = told_with Anything before line n lines tt ∙ ap (λ ls. ls ++ told_lines line) comments.told ∙ told_comment May line joins comment;
+pub one_comment : (May : List ℕ → Type 0) (before line : List ℕ) (n : ℕ) → AreLines Anything before n → Follows May line → begins_with 99 line ≡ true → AreComments before → AreComments (before ++ line)
+one_comment May before line n lines follows comment comments = record {
+  told = told_with Anything before line n lines tt ∙ ap (λ ls. ls ++ told_lines line) comments.told ∙ told_comment May line follows comment;
 }
 
 -- the head
-pub one_head : (May : List ℕ → Type 0) (before line : List ℕ) (n variables count : ℕ) → AreLines Anything before n → Joins May line → begins_with 99 line ≡ false → AreComments before → IsHead line variables count
+pub one_head : (May : List ℕ → Type 0) (before line : List ℕ) (n variables count : ℕ) → AreLines Anything before n → Follows May line → begins_with 99 line ≡ false → AreComments before → IsHead line variables count
     → AreClauseLines May (before ++ line) variables count []
-one_head May before line n variables count lines joins plain comments is = record {
+one_head May before line n variables count lines follows plain comments is = record {
   head = line;
   body = [];
-  told = told_with Anything before line n lines tt ∙ ap (λ ls. ls ++ told_lines line) comments.told ∙ told_plain May line joins plain;
+  told = told_with Anything before line n lines tt ∙ ap (λ ls. ls ++ told_lines line) comments.told ∙ told_plain May line follows plain;
   is_head = is;
   follow = λ more may. refl;
 }
 
 -- a comment among the clauses
-pub comment_between : (May : List ℕ → Type 0) (before line : List ℕ) (n variables count : ℕ) (seen : List (List ℕ)) → AreLines Anything before n → Joins May line → begins_with 99 line ≡ true → AreClauseLines Anything before variables count seen
+pub comment_between : (May : List ℕ → Type 0) (before line : List ℕ) (n variables count : ℕ) (seen : List (List ℕ)) → AreLines Anything before n → Follows May line → begins_with 99 line ≡ true → AreClauseLines Anything before variables count seen
     → AreClauseLines May (before ++ line) variables count seen
-comment_between May before line n variables count seen lines joins comment clauses = record {
+comment_between May before line n variables count seen lines follows comment clauses = record {
   head = clauses.head;
   body = clauses.body;
-  told = told_with Anything before line n lines tt ∙ ap (λ ls. told_lines before ++ ls) (told_comment May line joins comment) ∙ append-nil (told_lines before) ∙ clauses.told;
+  told = told_with Anything before line n lines tt ∙ ap (λ ls. told_lines before ++ ls) (told_comment May line follows comment) ∙ append-nil (told_lines before) ∙ clauses.told;
   is_head = clauses.is_head;
   follow = λ more may. clauses.follow more tt;
 }
 
 -- a line of clauses
-pub one_more : (May : List ℕ → Type 0) (before line : List ℕ) (n variables count : ℕ) (seen : List (List ℕ)) → AreLines Anything before n → Joins May line → begins_with 99 line ≡ false → AreClauseLines Anything before variables count seen
+pub one_more : (May : List ℕ → Type 0) (before line : List ℕ) (n variables count : ℕ) (seen : List (List ℕ)) → AreLines Anything before n → Follows May line → begins_with 99 line ≡ false → AreClauseLines Anything before variables count seen
     → AreClauseLines May (before ++ line) variables count (seen ++ words line)
-one_more May before line n variables count seen lines joins plain clauses = record {
+one_more May before line n variables count seen lines follows plain clauses = record {
   head = clauses.head;
   body = clauses.body ++ line ∷ [];
-  told = told_with Anything before line n lines tt ∙ ap (λ ls. told_lines before ++ ls) (told_plain May line joins plain) ∙ ap (λ ls. ls ++ line ∷ []) clauses.told;
+  told = told_with Anything before line n lines tt ∙ ap (λ ls. told_lines before ++ ls) (told_plain May line follows plain) ∙ ap (λ ls. ls ++ line ∷ []) clauses.told;
   is_head = clauses.is_head;
   follow = λ more may.
       ap (λ b. words (b ++ more)) (flat_map-append (λ (line : List ℕ). line) clauses.body (line ∷ []) ∙ ap (λ b. flat_map (λ line. line) clauses.body ++ b) (append-nil line))
-      ∙ ap words (append_assoc (flat_map (λ line. line) clauses.body) line more) ∙ clauses.follow (line ++ more) tt ∙ ap (λ ws. seen ++ ws) (joins.word more may) ∙ sym (append_assoc seen (words line) (words more));
+      ∙ ap words (append_assoc (flat_map (λ line. line) clauses.body) line more) ∙ clauses.follow (line ++ more) tt ∙ ap (λ ws. seen ++ ws) (follows.word more may) ∙ sym (append_assoc seen (words line) (words more));
 }

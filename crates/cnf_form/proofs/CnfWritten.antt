@@ -8,7 +8,7 @@ use Rattle.std.proofs.lemmas.List.Elements.{All-head, All-tail}
 use Rattle.std.proofs.lemmas.Fmt.{decimal_digit}
 use Rattle.cnf_form.specs.Literals.{most, IsLiteral, IsClause}
 use Rattle.cnf_form.specs.Texts.{literals_text, clause_text, cnf_text}
-use Rattle.cnf_form.specs.Lines.{lines_of}
+use Rattle.text_lines.specs.Lines.{lines_of}
 use Rattle.cnf_form.specs.Forms.{words, begins_with, told_lines, numbers_of, IsFormula, IsCnfText}
 use Rattle.cnf_form.proofs.Written.{IsNumeric-decimal, IsNumeric-signed, words-word, begins_not, AllVisible, AllVisible-append, AllVisible-numeric, lines_of-line}
 

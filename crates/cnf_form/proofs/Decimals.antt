@@ -1,12 +1,11 @@
 -- Which bytes write a number.
-use Rattle.std.proofs.Common.{◌≡◌, ◌≢◌, ℕ, ℤ, pos, negsuc, zero, suc, ◌+◌, ◌^◌, ◌<◌, ◌≤◌, List, [], ◌∷◌, length, get_or, take, drop, ◌-◌, unsigned_abs, sym, ◌∙◌, ap, subst, arith, le-ltb, lt-ltb}
+use Rattle.std.proofs.Common.{◌≡◌, ◌≢◌, ℕ, ℤ, pos, negsuc, zero, suc, ◌+◌, ◌^◌, ◌<◌, ◌≤◌, List, [], ◌∷◌, length, get_or, take, drop, ◌-◌, unsigned_abs, sym, ◌∙◌, ap, subst, arith}
 use Rattle.std.specs.Fmt.{decimal, signed_decimal}
-use Rattle.std.specs.Char.{digit_value}
 use Rattle.std.specs.Str.Parse.{AllDigits, digits_value}
-use Rattle.std.proofs.lemmas.Str.Parse.{IsNumeralModel, numerals_by_value, tells_digits, digit_at, digits_value-take-le}
+use Rattle.std.proofs.lemmas.Str.Parse.{IsNumeralModel, numerals_by_value, tells_digits, digit_at}
 use Rattle.std.proofs.lemmas.List.{take_all}
 use Rattle.cnf_form.specs.Literals.{most}
-use Rattle.std.proofs.lemmas.Fmt.{decimal_injective, digits_decimal, digits_value-decimal, decimal-digits_value, decimal_digit, first_decimal}
+use Rattle.std.proofs.lemmas.Fmt.{decimal_injective, digits_decimal, decimal-digits_value, decimal_digit, first_decimal}
 
 pub own : IsNumeralModel (AllDigits 10) (digits_value 10)
 own = numerals_by_value (AllDigits 10) tells_digits
@@ -22,20 +21,6 @@ decimal_of ds all some plain small = sym (decimal-digits_value own ds all some (
   where
     by_length : get_or ds 0 0 ≡ 48 → length ds ≡ 1
     by_length first = let two : ¬ (1 < length ds) = λ h. plain (h, first) in omega arith
-
-pub digit_of_value : (b : ℕ) → (48 ≤ b) × (b ≤ 57) → (digit_value b < 10) × (digit_value b + 48 ≡ b)
-digit_of_value b within =
-    let low = le-ltb b 48 within.0 in
-    let high = lt-ltb b 58 (omega arith) in
-    rw (low, high) (omega arith, omega arith)
-
--- what the first of its digits write is no more than the number
-pub small_front : (bytes : List ℕ) (n i : ℕ) → n ≤ 2 ^ 32 → bytes ≡ decimal n → digits_value 10 (take i bytes) ≤ n
-small_front bytes n i small same =
-    let value = digits_value-decimal own n (omega arith) in
-    let less = digits_value-take-le 10 bytes i (omega arith) in
-    let whole : digits_value 10 bytes ≡ n = ap (digits_value 10) same ∙ value in
-    omega arith
 
 -- a minus and the bytes behind it
 pub minus_split : (bytes : List ℕ) → 1 ≤ length bytes → get_or bytes 0 0 ≡ 45 → bytes ≡ 45 ∷ take (length bytes - 1) (drop 1 bytes)

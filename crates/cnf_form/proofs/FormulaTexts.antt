@@ -8,16 +8,18 @@ use Rattle.std.proofs.lemmas.Fmt.{decimal_injective}
 use Rattle.std.proofs.lemmas.List.Elements.{All-nil}
 use Rattle.std.proofs.lemmas.List.Folds.{list_all-append}
 use Rattle.cnf_form.specs.Literals.{most, IsClause, NamesUpTo}
-use Rattle.cnf_form.specs.Lines.{Begins}
+use Rattle.text_lines.specs.Lines.{Begins}
 use Rattle.cnf_form.specs.Forms.{words, begins_with, told_lines, IsFormula, IsFormulaText}
-use Rattle.cnf_form.specs.Passing.{HasNoFeed, EndsInFeed, IsUnfinished, IsHead, AreLines, AreComments, AreClauseLines, IsNoHead, StopsInHead}
+use Rattle.text_lines.specs.Cutting.{HasNoFeed, EndsInFeed, IsUnfinished, AreLines, Anything}
+use Rattle.cnf_form.specs.Passing.{IsHead, AreComments, AreClauseLines, IsNoHead, StopsInHead}
 use Rattle.cnf_form.specs.Reading.{front_words, AreOfFormula, Reaches, BreaksOff, StopsShort}
 use Rattle.cnf_form.proofs.OneFormula.{same_head, third}
 use Rattle.cnf_form.proofs.Heads.{zero_is}
 use Rattle.cnf_form.proofs.Fronts.{empty_clause}
 use Rattle.cnf_form.proofs.Bodies.{completed}
-use Rattle.cnf_form.proofs.Advancing.{Anything, Joins, joins_feed, one_line, one_comment, one_head, one_more, comment_between, told_with, told_plain, next_told, words_feed, begins_on, some_line}
-use Rattle.cnf_form.proofs.Leaving.{begins_front}
+use Rattle.cnf_form.proofs.Advancing.{Follows, follows_feed, one_comment, one_head, one_more, comment_between, told_with, told_plain, next_told, words_feed, begins_on}
+use Rattle.text_lines.proofs.Joining.{one_line, some_line}
+use Rattle.text_lines.proofs.Leaving.{begins_front}
 
 -- what stands behind the lines so far, as a text of a formula has it
 pub of_lines : (May : List ℕ → Type 0) (before more : List ℕ) (n variables count : ℕ) (seen : List (List ℕ)) → AreLines May before n → AreClauseLines May before variables count seen → May more → May (flat_map (λ line. line) (told_lines more))
@@ -122,25 +124,25 @@ closed_begins before line c begins = begins_front IsFormulaText (before ++ line)
 pub comment_begins : (before line : List ℕ) (n : ℕ) → AreLines Anything before n → AreComments before → EndsInFeed line ⊎ IsUnfinished line → begins_with 99 line ≡ true → Begins IsFormulaText (before ++ line)
 comment_begins before line n lines comments shape comment =
     let c = closing line shape in
-    let joins = joins_feed Anything (line ++ c.ending) c.ends in
-    closed_begins before line c (viable_comments (before ++ (line ++ c.ending)) (n + 1) (one_line Anything before (line ++ c.ending) n lines joins)
-    (one_comment Anything before (line ++ c.ending) n lines joins (begins_on 99 line c.ending (some_of line shape) ∙ comment) comments))
+    let follows = follows_feed Anything (line ++ c.ending) c.ends in
+    closed_begins before line c (viable_comments (before ++ (line ++ c.ending)) (n + 1) (one_line Anything before (line ++ c.ending) n lines follows.joins)
+    (one_comment Anything before (line ++ c.ending) n lines follows (begins_on 99 line c.ending (some_of line shape) ∙ comment) comments))
 
 pub between_begins : (before line : List ℕ) (n variables count : ℕ) (seen : List (List ℕ)) → AreLines Anything before n → AreClauseLines Anything before variables count seen → Reaches variables count seen → EndsInFeed line ⊎ IsUnfinished line → begins_with 99 line ≡ true
     → Begins IsFormulaText (before ++ line)
 between_begins before line n variables count seen lines clauses reaches shape comment =
     let c = closing line shape in
-    let joins = joins_feed Anything (line ++ c.ending) c.ends in
-    closed_begins before line c (viable (before ++ (line ++ c.ending)) (n + 1) variables count seen (one_line Anything before (line ++ c.ending) n lines joins)
-    (comment_between Anything before (line ++ c.ending) n variables count seen lines joins (begins_on 99 line c.ending (some_of line shape) ∙ comment) clauses) reaches)
+    let follows = follows_feed Anything (line ++ c.ending) c.ends in
+    closed_begins before line c (viable (before ++ (line ++ c.ending)) (n + 1) variables count seen (one_line Anything before (line ++ c.ending) n lines follows.joins)
+    (comment_between Anything before (line ++ c.ending) n variables count seen lines follows (begins_on 99 line c.ending (some_of line shape) ∙ comment) clauses) reaches)
 
 pub clauses_begin : (before line : List ℕ) (n variables count : ℕ) (seen : List (List ℕ)) → AreLines Anything before n → AreClauseLines Anything before variables count seen → Reaches variables count (seen ++ words line) → EndsInFeed line ⊎ IsUnfinished line → begins_with 99 line ≡ false
     → Begins IsFormulaText (before ++ line)
 clauses_begin before line n variables count seen lines clauses reaches shape plain =
     let c = closing line shape in
-    let joins = joins_feed Anything (line ++ c.ending) c.ends in
-    closed_begins before line c (viable (before ++ (line ++ c.ending)) (n + 1) variables count (seen ++ words (line ++ c.ending)) (one_line Anything before (line ++ c.ending) n lines joins)
-    (one_more Anything before (line ++ c.ending) n variables count seen lines joins (begins_on 99 line c.ending (some_of line shape) ∙ plain) clauses) (subst (λ ws. Reaches variables count (seen ++ ws)) (sym c.same) reaches))
+    let follows = follows_feed Anything (line ++ c.ending) c.ends in
+    closed_begins before line c (viable (before ++ (line ++ c.ending)) (n + 1) variables count (seen ++ words (line ++ c.ending)) (one_line Anything before (line ++ c.ending) n lines follows.joins)
+    (one_more Anything before (line ++ c.ending) n variables count seen lines follows (begins_on 99 line c.ending (some_of line shape) ∙ plain) clauses) (subst (λ ws. Reaches variables count (seen ++ ws)) (sym c.same) reaches))
 
 nothing_read : (variables count : ℕ) → variables ≤ most → count ≤ most → Reaches variables count []
 unfolding front_words
@@ -154,11 +156,11 @@ nothing_read variables count few_variables few_clauses = record {
 pub head_begins : (before line : List ℕ) (n variables count : ℕ) → AreLines Anything before n → AreComments before → IsHead line variables count → EndsInFeed line ⊎ IsUnfinished line → begins_with 99 line ≡ false → Begins IsFormulaText (before ++ line)
 head_begins before line n variables count lines comments is shape plain =
     let c = closing line shape in
-    let joins = joins_feed Anything (line ++ c.ending) c.ends in
+    let follows = follows_feed Anything (line ++ c.ending) c.ends in
     let some = some_of line shape in
     let head : IsHead (line ++ c.ending) variables count = record { marked = begins_on 112 line c.ending some ∙ is.marked; numbers = c.same ∙ is.numbers; few_variables = is.few_variables; few_clauses = is.few_clauses } in
-    closed_begins before line c (viable (before ++ (line ++ c.ending)) (n + 1) variables count [] (one_line Anything before (line ++ c.ending) n lines joins)
-    (one_head Anything before (line ++ c.ending) n variables count lines joins (begins_on 99 line c.ending some ∙ plain) comments head) (nothing_read variables count is.few_variables is.few_clauses))
+    closed_begins before line c (viable (before ++ (line ++ c.ending)) (n + 1) variables count [] (one_line Anything before (line ++ c.ending) n lines follows.joins)
+    (one_head Anything before (line ++ c.ending) n variables count lines follows (begins_on 99 line c.ending some ∙ plain) comments head) (nothing_read variables count is.few_variables is.few_clauses))
 
 -- ---- breaking off
 
@@ -200,10 +202,10 @@ head_stops before line n lines comments shape plain stops =
     begins_front IsFormulaText (before ++ line) (stops.more ++ 10 ∷ []) (subst (Begins IsFormulaText) (sym (append_assoc before line (stops.more ++ 10 ∷ [])))
     (head_begins before (line ++ (stops.more ++ 10 ∷ [])) n stops.variables stops.count lines comments stops.is_head (inl ends) (begins_on 99 line (stops.more ++ 10 ∷ []) (some_of line shape) ∙ plain)))
 
-pub head_not_yet : (May : List ℕ → Type 0) (before line : List ℕ) (n : ℕ) → AreLines Anything before n → AreComments before → Joins May line → begins_with 99 line ≡ false → StopsInHead line → ¬ IsFormulaText (before ++ line)
-head_not_yet May before line n lines comments joins plain stops text =
+pub head_not_yet : (May : List ℕ → Type 0) (before line : List ℕ) (n : ℕ) → AreLines Anything before n → AreComments before → Follows May line → begins_with 99 line ≡ false → StopsInHead line → ¬ IsFormulaText (before ++ line)
+head_not_yet May before line n lines comments follows plain stops text =
     let is = text.formula in
-    let same = same_head line is.head [] is.body (sym (told_with Anything before line n lines tt ∙ ap (λ ls. ls ++ told_lines line) comments.told ∙ told_plain May line joins plain) ∙ is.lines) in
+    let same = same_head line is.head [] is.body (sym (told_with Anything before line n lines tt ∙ ap (λ ls. ls ++ told_lines line) comments.told ∙ told_plain May line follows plain) ∙ is.lines) in
     stops.none text.variables (length text.clauses) (record { marked = ap (begins_with 112) same.0 ∙ is.marked; numbers = ap words same.0 ∙ is.numbers; few_variables = is.formula.few_variables; few_clauses = is.formula.few_clauses })
 
 pub clauses_stop : (before line : List ℕ) (n variables count : ℕ) (seen : List (List ℕ)) → AreLines Anything before n → AreClauseLines Anything before variables count seen → EndsInFeed line ⊎ IsUnfinished line → begins_with 99 line ≡ false → StopsShort variables count seen line
@@ -213,7 +215,7 @@ clauses_stop before line n variables count seen lines clauses shape plain stops 
     begins_front IsFormulaText (before ++ line) (stops.more ++ 10 ∷ []) (subst (Begins IsFormulaText) (sym (append_assoc before line (stops.more ++ 10 ∷ [])))
     (clauses_begin before (line ++ (stops.more ++ 10 ∷ [])) n variables count seen lines clauses stops.reaches (inl ends) (begins_on 99 line (stops.more ++ 10 ∷ []) (some_of line shape) ∙ plain)))
 
-pub clauses_not_yet : (May : List ℕ → Type 0) (before line : List ℕ) (n variables count : ℕ) (seen : List (List ℕ)) → AreLines Anything before n → AreClauseLines Anything before variables count seen → Joins May line → begins_with 99 line ≡ false → StopsShort variables count seen line
+pub clauses_not_yet : (May : List ℕ → Type 0) (before line : List ℕ) (n variables count : ℕ) (seen : List (List ℕ)) → AreLines Anything before n → AreClauseLines Anything before variables count seen → Follows May line → begins_with 99 line ≡ false → StopsShort variables count seen line
     → ¬ IsFormulaText (before ++ line)
-clauses_not_yet May before line n variables count seen lines clauses joins plain stops text =
-    stops.none (subst (λ t. AreOfFormula variables count (seen ++ words t)) (ap (flat_map (λ line. line)) (told_plain May line joins plain) ∙ append-nil line) (of_lines Anything before line n variables count seen lines clauses tt tt text))
+clauses_not_yet May before line n variables count seen lines clauses follows plain stops text =
+    stops.none (subst (λ t. AreOfFormula variables count (seen ++ words t)) (ap (flat_map (λ line. line)) (told_plain May line follows plain) ∙ append-nil line) (of_lines Anything before line n variables count seen lines clauses tt tt text))

@@ -9,7 +9,8 @@ use Rattle.cnf_form.specs.declared.head.Head.TheVariants.{Is, MayGrow, Breaks}
 use Rattle.cnf_form.specs.Literals.{most}
 use Rattle.cnf_form.specs.Forms.{words, begins_with}
 use Rattle.cnf_form.specs.Words.{AreGaps, CutsWord}
-use Rattle.cnf_form.specs.Passing.{HasNoFeed, IsNoHead, StopsInHead, IsHeadOf, LacksWord, BeginsApart, UpTo}
+use Rattle.text_lines.specs.Cutting.{HasNoFeed}
+use Rattle.cnf_form.specs.Passing.{IsNoHead, StopsInHead, IsHeadOf, LacksWord, BeginsApart, UpTo}
 use Rattle.cnf_form.proofs.Wording.{words-gaps}
 use Rattle.cnf_form.proofs.Growing.{number_front}
 use Rattle.cnf_form.proofs.LineWords.{at_word, at_open, solid_front, open_end, no_word, nothing_apart}

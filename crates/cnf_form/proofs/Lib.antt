@@ -10,7 +10,6 @@ pub mod Advancing
 pub mod Bodies
 pub mod LineWords
 pub mod Heads
-pub mod Leaving
 pub mod FormulaTexts
 pub mod Placing
 pub mod Tokens

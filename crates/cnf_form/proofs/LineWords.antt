@@ -7,7 +7,8 @@ use Rattle.std.proofs.lemmas.List.{append-nil}
 use Rattle.std.proofs.lemmas.List.Folds.{list_all-append}
 use Rattle.cnf_form.specs.Forms.{is_gap, words}
 use Rattle.cnf_form.specs.Words.{AreGaps, IsSolid, CutsWord}
-use Rattle.cnf_form.specs.Passing.{HasNoFeed, EndsInFeed, BeginsApart, UpTo}
+use Rattle.text_lines.specs.Cutting.{HasNoFeed, EndsInFeed}
+use Rattle.cnf_form.specs.Passing.{BeginsApart, UpTo}
 use Rattle.cnf_form.specs.declared.front.Front.{Front}
 use Rattle.cnf_form.specs.declared.course.Course.{Course}
 use Rattle.cnf_form.specs.declared.course.Course.TheVariants.{Fits, MayGrow, Breaks}

@@ -1,6 +1,6 @@
 -- The lines of a log's text: what they begin, and where they break off.
-use Rattle.std.proofs.Common.{◌≡◌, ◌≢◌, ℕ, zero, suc, ◌+◌, ◌-◌, ◌^◌, ◌<◌, ◌≤◌, ◌==◌, true, false, not, ◌⊎◌, inl, inr, List, [], ◌∷◌, ◌++◌, length, map, codes, All, refl, sym, ◌∙◌, ap, subst, arith, append_assoc, length-append, ne_eqb}
-use Rattle.std.specs.List.{list_all, flat_map}
+use Rattle.std.proofs.Common.{◌≡◌, ◌≢◌, ℕ, zero, suc, ◌+◌, ◌-◌, ◌^◌, ◌<◌, ◌≤◌, List, [], ◌∷◌, ◌++◌, length, map, codes, All, refl, sym, ◌∙◌, ap, subst, arith, append_assoc, length-append, ne_eqb}
+use Rattle.std.specs.List.{flat_map}
 use Rattle.std.specs.Fmt.{decimal}
 use Rattle.std.proofs.lemmas.List.{append-nil, length-map}
 use Rattle.std.proofs.lemmas.List.Concat.{flat_map-append}
@@ -9,16 +9,16 @@ use Rattle.std.proofs.lemmas.Fmt.{decimal_injective}
 use Rattle.cnf_form.specs.declared.log.LogLine.{LogLine}
 use Rattle.cnf_form.specs.Literals.{most}
 use Rattle.cnf_form.specs.Texts.{literals_text, hints_text, line_text, log_text}
-use Rattle.cnf_form.specs.Lines.{onto_first, lines_of, Begins, LeavesAt}
+use Rattle.text_lines.specs.Lines.{lines_of, Begins, LeavesAt}
 use Rattle.cnf_form.specs.Forms.{IsLogLine, IsLogText, IsLogFile}
-use Rattle.cnf_form.specs.Passing.{HasNoFeed, EndsInFeed, IsUnfinished, CutsLine, AreLines}
+use Rattle.text_lines.specs.Cutting.{HasNoFeed, EndsInFeed, CutsLine, AreLines, Anything}
 use Rattle.cnf_form.specs.LogReading.{log_head, IsLogHead, StopsInLogHead, IsNoLogHead, IsLineOf, StopsInLine, IsNoLine, log_before, InLog}
 use Rattle.cnf_form.proofs.Written.{IsNumeric-decimal, AllVisible, AllVisible-append, AllVisible-numeric}
 use Rattle.cnf_form.proofs.CnfWritten.{visible-literals}
-use Rattle.cnf_form.proofs.Wording.{and_true, not_true}
 use Rattle.cnf_form.proofs.Fronts.{empty_clause}
-use Rattle.cnf_form.proofs.Advancing.{Anything, joins_feed, joins_end}
-use Rattle.cnf_form.proofs.Leaving.{begins_front, leaves_here, leaves_end, concat_lines}
+use Rattle.text_lines.proofs.Joining.{joins_feed}
+use Rattle.text_lines.proofs.Onward.{onward, shape_of, stands, open_line}
+use Rattle.text_lines.proofs.Leaving.{begins_front, leaves_here, leaves_end}
 use Rattle.cnf_form.proofs.Tokens.{solid_decimal, cut_same}
 use Rattle.cnf_form.proofs.LogLines.{line_parts, line_of_clause, same_line}
 
@@ -158,58 +158,6 @@ log_begins count lines few within each =
 
 -- ---- where a line breaks off
 
--- the first line of what goes on from this one
-record Onward (line more : List ℕ) : Type 0 where
-  ending : List ℕ
-  rest : List (List ℕ)
-  lines : lines_of (line ++ more) ≡ (line ++ ending) ∷ rest
-
-onto : (x : ℕ) (lines : List (List ℕ)) → (ending : List ℕ) × (rest : List (List ℕ)) × (onto_first x lines ≡ (x ∷ ending) ∷ rest)
-onto x [] = ([], [], refl)
-onto x (line ∷ lines) = (line, lines, refl)
-
-step : (x : ℕ) (text : List ℕ) → (x == 10) ≡ false → lines_of (x ∷ text) ≡ onto_first x (lines_of text)
-step x text plain = rw plain refl
-
-onward_open : (x : ℕ) (xs more : List ℕ) → HasNoFeed (x ∷ xs) → Onward (x ∷ xs) more
-onward_open x [] more no_feed =
-    let plain = not_true (x == 10) (and_true (not (x == 10)) true no_feed).0 in
-    let joined = onto x (lines_of more) in
-    record { ending = joined.0; rest = joined.1; lines = step x more plain ∙ joined.2 }
-onward_open x (y ∷ ys) more no_feed =
-    let parts = and_true (not (x == 10)) (list_all (λ b. not (b == 10)) (y ∷ ys)) no_feed in
-    let plain = not_true (x == 10) parts.0 in
-    let rest = onward_open y ys more parts.1 in
-    record { ending = rest.ending; rest = rest.rest; lines = step x ((y ∷ ys) ++ more) plain ∙ ap (onto_first x) rest.lines }
-
-onward : (line more : List ℕ) → EndsInFeed line ⊎ IsUnfinished line → Onward line more
-onward line more (inl ends) = record { ending = []; rest = lines_of more; lines = (joins_feed Anything line ends).lines more tt ∙ ap (λ l. l ∷ lines_of more) (sym (append-nil line)) }
-onward [] more (inr unfinished) = absurd (omega (arith, unfinished.some))
-onward (x ∷ xs) more (inr unfinished) = onward_open x xs more unfinished.no_feed
-
-shape_of : (rest line after : List ℕ) → CutsLine rest line after → EndsInFeed line ⊎ IsUnfinished line
-shape_of rest line after cut = by_shape cut.shape
-  where
-    by_shape : EndsInFeed line ⊎ (IsUnfinished line × (after ≡ [])) → EndsInFeed line ⊎ IsUnfinished line
-    by_shape (inl ends) = inl ends
-    by_shape (inr unfinished) = inr unfinished.0
-
--- a line, before what stands behind it
-record Stands (line after : List ℕ) : Type 0 where
-  alone : lines_of line ≡ line ∷ []
-  joined : lines_of (line ++ after) ≡ line ∷ lines_of after
-  some : 0 < length line
-
-stands : (rest line after : List ℕ) → CutsLine rest line after → Stands line after
-stands rest line after cut = by_shape cut.shape
-  where
-    by_shape : EndsInFeed line ⊎ (IsUnfinished line × (after ≡ [])) → Stands line after
-    by_shape (inl ends) = let joins = joins_feed Anything line ends in record { alone = joins.alone; joined = joins.lines after tt; some = joins.some }
-    by_shape (inr unfinished) = let joins = joins_end (λ more. more ≡ []) line unfinished.0 (λ more is. is) in record { alone = joins.alone; joined = joins.lines after unfinished.1; some = joins.some }
-
-pub cut_shorter : (rest line after : List ℕ) → CutsLine rest line after → length after < length rest
-cut_shorter rest line after cut = omega (arith, ap length cut.split, length-append line after, (stands rest line after cut).some)
-
 here : (text rest line after : List ℕ) (count : ℕ) (lines : List LogLine) → InLog text rest count lines → CutsLine rest line after → ¬ Begins IsLogFile (log_before count lines ++ line) → LeavesAt IsLogFile text (length lines + 1)
 here text rest line after count lines place cut stuck =
     let now = stands rest line after cut in
@@ -230,22 +178,6 @@ pub too_many : (text rest line after : List ℕ) (count : ℕ) (lines : List Log
 too_many text rest line after count lines place cut full = here text rest line after count lines place cut (λ begins.
     let at = found line after rest begins.more count lines begins.whole.lines place.few place.each cut begins.whole.log in
     omega (arith, at.1.less, at.2, full))
-
--- a line that may grow has no line feed
-closed_whole : (line more whole : List ℕ) → EndsInFeed line → EndsInFeed whole → line ++ more ≡ whole → more ≡ []
-closed_whole line more whole ends ends_too same =
-    let lines = first_of line whole (lines_of more) [] (sym ((joins_feed Anything line ends).lines more tt) ∙ ap lines_of same ∙ (joins_feed Anything whole ends_too).alone) in
-    sym (concat_lines more) ∙ ap (flat_map (λ line. line)) lines.1
-
-open_line : (rest line after more whole : List ℕ) → CutsLine rest line after → EndsInFeed whole → 0 < length more → line ++ more ≡ whole → (after ≡ []) × (¬ EndsInFeed line)
-open_line rest line after more whole cut ends some same = (by_shape cut.shape, bare)
-  where
-    bare : ¬ EndsInFeed line
-    bare closed = omega (arith, some, ap length (closed_whole line more whole closed ends same))
-
-    by_shape : EndsInFeed line ⊎ (IsUnfinished line × (after ≡ [])) → after ≡ []
-    by_shape (inl closed) = absurd (bare closed)
-    by_shape (inr unfinished) = unfinished.1
 
 pub line_cut_off : (text rest line after : List ℕ) (count : ℕ) (lines : List LogLine) → InLog text rest count lines → CutsLine rest line after → length lines < count → StopsInLine line → LeavesAt IsLogFile text (length lines + 2)
 line_cut_off text rest line after count lines place cut room stops =

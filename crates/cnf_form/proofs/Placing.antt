@@ -5,13 +5,15 @@ use Rattle.std.specs.Fmt.{decimal}
 use Rattle.std.proofs.lemmas.List.{append-nil}
 use Rattle.cnf_form.specs.declared.front.Front.{Front}
 use Rattle.cnf_form.specs.declared.course.Course.TheVariants.{Fits, MayGrow, Breaks}
-use Rattle.cnf_form.specs.Lines.{lines_of, Begins, LeavesAt}
+use Rattle.text_lines.specs.Lines.{lines_of, Begins, LeavesAt}
 use Rattle.cnf_form.specs.Forms.{words, begins_with, told_lines, IsCnfText, IsFormulaText}
-use Rattle.cnf_form.specs.Passing.{EndsInFeed, IsUnfinished, CutsLine, IsHead, AreLines, AreComments, AreClauseLines, IsNoHead, StopsInHead}
+use Rattle.text_lines.specs.Cutting.{EndsInFeed, IsUnfinished, CutsLine, AreLines, Anything}
+use Rattle.cnf_form.specs.Passing.{IsHead, AreComments, AreClauseLines, IsNoHead, StopsInHead}
 use Rattle.cnf_form.specs.Reading.{front_words, Keeps, AreOfFormula, Reaches, TakesTold}
 use Rattle.cnf_form.specs.Places.{MayFollow, IsAt, InComments, BehindHead, InClauses}
-use Rattle.cnf_form.proofs.Advancing.{Anything, Joins, joins_feed, joins_end, one_line, one_comment, one_head, one_more, comment_between}
-use Rattle.cnf_form.proofs.Leaving.{leaves_here, leaves_end}
+use Rattle.cnf_form.proofs.Advancing.{Follows, follows_feed, follows_end, one_comment, one_head, one_more, comment_between}
+use Rattle.text_lines.proofs.Joining.{one_line}
+use Rattle.text_lines.proofs.Leaving.{leaves_here, leaves_end}
 use Rattle.cnf_form.proofs.Bodies.{too_few, enough, whole_formula}
 use Rattle.cnf_form.proofs.FormulaTexts.{of_lines, viable_comments, comment_begins, between_begins, clauses_begin, head_begins, head_breaks, clauses_break, head_stops, head_not_yet, clauses_stop, clauses_not_yet}
 
@@ -30,12 +32,12 @@ shape_of rest line after cut = by_shape cut.shape
     by_shape (inl ends) = inl ends
     by_shape (inr unfinished) = inr unfinished.0
 
-joins_of : (rest line after : List ℕ) → CutsLine rest line after → Joins (MayFollow after) line
-joins_of rest line after cut = by_shape cut.shape
+follows_of : (rest line after : List ℕ) → CutsLine rest line after → Follows (MayFollow after) line
+follows_of rest line after cut = by_shape cut.shape
   where
-    by_shape : EndsInFeed line ⊎ (IsUnfinished line × (after ≡ [])) → Joins (MayFollow after) line
-    by_shape (inl ends) = joins_feed (MayFollow after) line ends
-    by_shape (inr unfinished) = joins_end (MayFollow after) line unfinished.0 (λ more may. may (ap length unfinished.1))
+    by_shape : EndsInFeed line ⊎ (IsUnfinished line × (after ≡ [])) → Follows (MayFollow after) line
+    by_shape (inl ends) = follows_feed (MayFollow after) line ends
+    by_shape (inr unfinished) = follows_end (MayFollow after) line unfinished.0 (λ more may. may (ap length unfinished.1))
 
 nothing_after : (rest line after : List ℕ) → CutsLine rest line after → ¬ EndsInFeed line → after ≡ []
 nothing_after rest line after cut none = by_shape cut.shape
@@ -49,12 +51,12 @@ follows_itself [] none = refl
 follows_itself (b ∷ bs) none = absurd (omega (arith, none))
 
 pub shorter : (rest line after : List ℕ) → CutsLine rest line after → length after < length rest
-shorter rest line after cut = omega (arith, ap length cut.split, length-append line after, (joins_of rest line after cut).some)
+shorter rest line after cut = omega (arith, ap length cut.split, length-append line after, (follows_of rest line after cut).joins.some)
 
 next_place : (text before rest line after : List ℕ) (n : ℕ) → IsAt text before rest n → CutsLine rest line after → 0 < length rest → Begins IsFormulaText (before ++ line) → IsAt text (before ++ line) after (n + 1)
 next_place text before rest line after n is_at cut some begins = record {
   split = is_at.split ∙ ap (λ r. before ++ r) cut.split ∙ sym (append_assoc before line after);
-  lines = one_line (MayFollow after) before line n (closed_lines rest before n some is_at.lines) (joins_of rest line after cut);
+  lines = one_line (MayFollow after) before line n (closed_lines rest before n some is_at.lines) (follows_of rest line after cut).joins;
   begins = begins;
   few = omega (arith, is_at.few, shorter rest line after cut);
 }
@@ -65,7 +67,7 @@ next_comment text rest line after n place cut some comment =
     record {
       before = place.before ++ line;
       is_at = next_place text place.before rest line after n place.is_at cut some (comment_begins place.before line n lines place.comments (shape_of rest line after cut) comment);
-      comments = one_comment (MayFollow after) place.before line n lines (joins_of rest line after cut) comment place.comments;
+      comments = one_comment (MayFollow after) place.before line n lines (follows_of rest line after cut) comment place.comments;
     }
 
 pub next_head : (text rest line after : List ℕ) (n variables count : ℕ) → InComments text rest n → CutsLine rest line after → 0 < length rest → begins_with 99 line ≡ false → IsHead line variables count → BehindHead text after (n + 1) variables count
@@ -74,7 +76,7 @@ next_head text rest line after n variables count place cut some plain is =
     record {
       before = place.before ++ line;
       is_at = next_place text place.before rest line after n place.is_at cut some (head_begins place.before line n variables count lines place.comments is (shape_of rest line after cut) plain);
-      clauses = one_head (MayFollow after) place.before line n variables count lines (joins_of rest line after cut) plain place.comments is;
+      clauses = one_head (MayFollow after) place.before line n variables count lines (follows_of rest line after cut) plain place.comments is;
     }
 
 reached : (front : Front) → Keeps front → Reaches front.variables front.count (front_words front.clauses.items front.literals.items)
@@ -94,7 +96,7 @@ next_clauses text rest line after n old new keeps place cut some (inl skips) =
       place = record {
         before = place.before ++ line;
         is_at = next_place text place.before rest line after n place.is_at cut some (between_begins place.before line n old.variables old.count (front_words old.clauses.items old.literals.items) lines clauses (reached old keeps) (shape_of rest line after cut) skips.comment);
-        clauses = comment_between (MayFollow after) place.before line n old.variables old.count (front_words old.clauses.items old.literals.items) lines (joins_of rest line after cut) skips.comment clauses;
+        clauses = comment_between (MayFollow after) place.before line n old.variables old.count (front_words old.clauses.items old.literals.items) lines (follows_of rest line after cut) skips.comment clauses;
       };
     } in
     subst (Further text after (n + 1)) (sym skips.same) here
@@ -102,9 +104,9 @@ next_clauses text rest line after n old new keeps place cut some (inr takes) =
     let went = takes.takes in
     let lines = closed_lines rest place.before n some place.is_at.lines in
     let clauses = closed_clauses rest place.before old.variables old.count (front_words old.clauses.items old.literals.items) some place.clauses in
-    let joins = joins_of rest line after cut in
+    let follows = follows_of rest line after cut in
     let reaches = subst (λ c. Reaches old.variables c (front_words old.clauses.items old.literals.items ++ words line)) went.count (subst (λ v. Reaches v new.count (front_words old.clauses.items old.literals.items ++ words line)) went.variables (subst (Reaches new.variables new.count) went.same (reached new went.keeps))) in
-    let more = one_more (MayFollow after) place.before line n old.variables old.count (front_words old.clauses.items old.literals.items) lines joins takes.plain clauses in
+    let more = one_more (MayFollow after) place.before line n old.variables old.count (front_words old.clauses.items old.literals.items) lines follows takes.plain clauses in
     record {
       keeps = went.keeps;
       place = record {
@@ -120,13 +122,13 @@ next_clauses text rest line after n old new keeps place cut some (inr takes) =
 
 here_at : (text before rest line after : List ℕ) (n : ℕ) → IsAt text before rest n → CutsLine rest line after → 0 < length rest → ¬ Begins IsFormulaText (before ++ line) → LeavesAt IsFormulaText text n
 here_at text before rest line after n is_at cut some stuck =
-    let joins = joins_of rest line after cut in
-    leaves_here IsFormulaText text before line after n (is_at.split ∙ ap (λ r. before ++ r) cut.split) (closed_lines rest before n some is_at.lines) joins.alone (joins.lines after (follows_itself after)) is_at.begins stuck
+    let follows = follows_of rest line after cut in
+    leaves_here IsFormulaText text before line after n (is_at.split ∙ ap (λ r. before ++ r) cut.split) (closed_lines rest before n some is_at.lines) follows.joins.alone (follows.joins.lines after (follows_itself after)) is_at.begins stuck
 
 end_at : (text before rest line after : List ℕ) (n : ℕ) → IsAt text before rest n → CutsLine rest line after → 0 < length rest → ¬ EndsInFeed line → Begins IsFormulaText (before ++ line) → ¬ IsFormulaText (before ++ line) → LeavesAt IsFormulaText text (n + 1)
 end_at text before rest line after n is_at cut some unfinished begins none =
     let whole : text ≡ before ++ line = is_at.split ∙ ap (λ r. before ++ r) (cut.split ∙ ap (λ a. line ++ a) (nothing_after rest line after cut unfinished) ∙ append-nil line) in
-    let lines = one_line (MayFollow after) before line n (closed_lines rest before n some is_at.lines) (joins_of rest line after cut) in
+    let lines = one_line (MayFollow after) before line n (closed_lines rest before n some is_at.lines) (follows_of rest line after cut).joins in
     leaves_end IsFormulaText text (n + 1) (λ is. none (subst IsFormulaText whole is)) (subst (Begins IsFormulaText) (sym whole) begins) (ap (λ t. length (lines_of t)) whole ∙ lines.count)
 
 pub no_head_here : (text rest line after : List ℕ) (n : ℕ) → InComments text rest n → CutsLine rest line after → 0 < length rest → begins_with 99 line ≡ false → IsNoHead line → LeavesAt IsFormulaText text n
@@ -137,7 +139,7 @@ pub head_cut_off : (text rest line after : List ℕ) (n : ℕ) → InComments te
 head_cut_off text rest line after n place cut some plain stops =
     let lines = closed_lines rest place.before n some place.is_at.lines in
     end_at text place.before rest line after n place.is_at cut some stops.unfinished (head_stops place.before line n lines place.comments (shape_of rest line after cut) plain stops)
-    (head_not_yet (MayFollow after) place.before line n lines place.comments (joins_of rest line after cut) plain stops)
+    (head_not_yet (MayFollow after) place.before line n lines place.comments (follows_of rest line after cut) plain stops)
 
 pub no_clauses_here : (text rest line after : List ℕ) (n : ℕ) (old new : Front) → InClauses text rest n old → CutsLine rest line after → 0 < length rest → TakesTold old new line Breaks → LeavesAt IsFormulaText text n
 no_clauses_here text rest line after n old new place cut some (inl skips) = let other : Breaks ≡ Fits = skips.course_is in cc
@@ -151,7 +153,7 @@ clauses_cut_off text rest line after n old new place cut some (inr takes) =
     let lines = closed_lines rest place.before n some place.is_at.lines in
     let clauses = closed_clauses rest place.before old.variables old.count (front_words old.clauses.items old.literals.items) some place.clauses in
     end_at text place.before rest line after n place.is_at cut some takes.takes.unfinished (clauses_stop place.before line n old.variables old.count (front_words old.clauses.items old.literals.items) lines clauses (shape_of rest line after cut) takes.plain takes.takes)
-    (clauses_not_yet (MayFollow after) place.before line n old.variables old.count (front_words old.clauses.items old.literals.items) lines clauses (joins_of rest line after cut) takes.plain takes.takes)
+    (clauses_not_yet (MayFollow after) place.before line n old.variables old.count (front_words old.clauses.items old.literals.items) lines clauses (follows_of rest line after cut) takes.plain takes.takes)
 
 -- ---- at the end of the text
 

@@ -8,7 +8,8 @@ use Rattle.cnf_form.specs.Literals.{most}
 use Rattle.cnf_form.specs.Forms.{is_gap}
 use Rattle.cnf_form.specs.Words.{IsSolid}
 use Rattle.cnf_form.specs.LogReading.{CutsAt, HasNoCut}
-use Rattle.cnf_form.proofs.Wording.{and_true, not_true}
+use Rattle.text_lines.proofs.Bytes.{and_true}
+use Rattle.std.proofs.lemmas.Bool.{not-true}
 use Rattle.cnf_form.proofs.Written.{AllNumeric, IsNumeric-decimal, IsNumeric-signed, not_gap}
 
 pub solid_numeric : (w : List ℕ) → AllNumeric w → IsSolid w
@@ -22,7 +23,7 @@ pub solid_signed : (l : ℤ) → unsigned_abs l ≤ most → IsSolid (signed_dec
 solid_signed l small = solid_numeric (signed_decimal l) (IsNumeric-signed l small).each
 
 solid_head : (b : ℕ) (bs : List ℕ) → IsSolid (b ∷ bs) → is_gap b ≡ false
-solid_head b bs solid = not_true (is_gap b) (and_true (not (is_gap b)) (list_all (λ b. not (is_gap b)) bs) solid).0
+solid_head b bs solid = not-true (is_gap b) (and_true (not (is_gap b)) (list_all (λ b. not (is_gap b)) bs) solid).0
 
 solid_tail : (b : ℕ) (bs : List ℕ) → IsSolid (b ∷ bs) → IsSolid bs
 solid_tail b bs solid = (and_true (not (is_gap b)) (list_all (λ b. not (is_gap b)) bs) solid).1

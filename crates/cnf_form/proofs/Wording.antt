@@ -1,19 +1,11 @@
 -- The words of a text, cut off one by one.
-use Rattle.std.proofs.Common.{◌≡◌, ℕ, suc, zero, ◌+◌, ◌<◌, ◌≤◌, Bool, true, false, not, ◌&&◌, List, [], ◌∷◌, ◌++◌, length, get_or, take, drop, filter, refl, sym, ◌∙◌, ap, arith, append_assoc, add-zero}
+use Rattle.std.proofs.Common.{◌≡◌, ℕ, suc, zero, ◌<◌, ◌≤◌, true, false, not, List, [], ◌∷◌, ◌++◌, length, get_or, take, drop, filter, refl, sym, ◌∙◌, ap, arith, append_assoc, add-zero}
 use Rattle.std.specs.List.{list_all}
-use Rattle.std.proofs.lemmas.Bool.{false≢true}
+use Rattle.std.proofs.lemmas.Bool.{false≢true, not-true}
 use Rattle.std.proofs.lemmas.List.{get_or-drop, length-drop, length-take-le, take-append-drop}
-use Rattle.std.proofs.lemmas.List.Folds.{list_all_more}
+use Rattle.text_lines.proofs.Bytes.{and_true}
 use Rattle.cnf_form.specs.Forms.{is_gap, pieces, has_bytes, words}
 use Rattle.cnf_form.specs.Words.{AreGaps, IsSolid, CutsWord}
-
-pub and_true : (a b : Bool) → (a && b) ≡ true → (a ≡ true) × (b ≡ true)
-and_true true b h = (refl, h)
-and_true false b h = absurd (false≢true h)
-
-pub not_true : (a : Bool) → not a ≡ true → a ≡ false
-not_true false h = refl
-not_true true h = absurd (false≢true h)
 
 pub words-gaps : (gaps text : List ℕ) → AreGaps gaps → words (gaps ++ text) ≡ words text
 words-gaps [] text blank = refl
@@ -25,7 +17,7 @@ pieces-solid : (word rest : List ℕ) (first : List ℕ) (more : List (List ℕ)
 pieces-solid [] rest first more solid is = is
 pieces-solid (b ∷ bs) rest first more solid is =
     let parts = and_true (not (is_gap b)) (list_all (λ b. not (is_gap b)) bs) solid in
-    rw (not_true (is_gap b) parts.0, pieces-solid bs rest first more parts.1 is) refl
+    rw (not-true (is_gap b) parts.0, pieces-solid bs rest first more parts.1 is) refl
 
 append_nil : (l : List ℕ) → l ++ [] ≡ l
 append_nil [] = refl
@@ -58,10 +50,6 @@ cut_open text word (b ∷ bs) more cut none = absurd (omega (arith, none))
 cut_open text word [] more cut none =
     ap words (ap (λ t. t ++ more) cut.split ∙ append_assoc cut.gaps (word ++ []) more ∙ ap (λ t. cut.gaps ++ t) (append_assoc word [] more))
     ∙ words-gaps cut.gaps (word ++ more) cut.blank
-
--- one more element that passes
-pub all_more : (p : ℕ → Bool) (xs : List ℕ) (i : ℕ) → i < length xs → list_all p (take i xs) ≡ true → p (get_or xs i 0) ≡ true → list_all p (take (i + 1) xs) ≡ true
-all_more p xs i within before here = list_all_more p xs i 0 within ∙ rw (before, here) refl
 
 drop_first : (n : ℕ) (xs : List ℕ) → get_or (drop n xs) 0 0 ≡ get_or xs n 0
 drop_first n xs = get_or-drop n xs 0 0 ∙ ap (λ k. get_or xs k 0) (add-zero n)

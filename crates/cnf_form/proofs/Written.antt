@@ -4,7 +4,7 @@ use Rattle.std.specs.Fmt.{decimal, signed_decimal}
 use Rattle.std.proofs.lemmas.Fmt.{decimal_by_steps}
 use Rattle.std.proofs.lemmas.Bool.Decides.{nat_tests}
 use Rattle.cnf_form.specs.Literals.{most}
-use Rattle.cnf_form.specs.Lines.{lines_of}
+use Rattle.text_lines.specs.Lines.{lines_of}
 use Rattle.cnf_form.specs.Forms.{is_gap, pieces, has_bytes, words, begins_with}
 
 -- each byte is a sign or a digit

@@ -4,7 +4,7 @@ use Rattle.std.specs.List.{flat_map}
 use Rattle.std.specs.Fmt.{decimal, signed_decimal}
 use Rattle.cnf_form.specs.declared.log.LogLine.{LogLine}
 use Rattle.cnf_form.specs.Literals.{most, IsClause, NamesUpTo}
-use Rattle.cnf_form.specs.Lines.{lines_of}
+use Rattle.text_lines.specs.Lines.{lines_of}
 use Rattle.cnf_form.specs.Texts.{log_text}
 
 -- ---- formulas

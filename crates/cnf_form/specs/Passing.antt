@@ -1,32 +1,12 @@
--- The lines of a text, one by one.
-use Rattle.std.specs.Prelude.{◌≡◌, ◌≤◌, ◌<◌, ◌==◌, ℕ, not, true, codes, List, [], ◌∷◌, ◌++◌, ◌⊎◌, length, slice_index}
-use Rattle.std.specs.List.{list_all, flat_map}
+-- The lines of a formula, one by one.
+use Rattle.std.specs.Prelude.{◌≡◌, ◌≤◌, ◌<◌, ℕ, true, codes, List, [], ◌∷◌, ◌++◌, length, slice_index}
+use Rattle.std.specs.List.{flat_map}
 use Rattle.std.specs.Fmt.{decimal}
 use Rattle.cnf_form.specs.declared.head.Head.{Head}
 use Rattle.cnf_form.specs.declared.head.Head.TheVariants.{Is, MayGrow, Breaks}
 use Rattle.cnf_form.specs.Literals.{most}
-use Rattle.cnf_form.specs.Lines.{lines_of}
+use Rattle.text_lines.specs.Cutting.{HasNoFeed, EndsInFeed}
 use Rattle.cnf_form.specs.Forms.{is_gap, words, begins_with, told_lines}
-
--- no line feed
-abbrev pub HasNoFeed : List ℕ → Type 0
-HasNoFeed bytes = list_all (λ b. not (b == 10)) bytes ≡ true
-
--- a line with its line feed
-pub record EndsInFeed (line : List ℕ) : Type 0 where
-  pub visible : List ℕ
-  pub is : line ≡ visible ++ 10 ∷ []
-  pub no_feed : HasNoFeed visible
-
--- a line without one
-pub record IsUnfinished (line : List ℕ) : Type 0 where
-  pub some : 0 < length line
-  pub no_feed : HasNoFeed line
-
--- the first line of a text, and what stands behind it
-pub record CutsLine (text line rest : List ℕ) : Type 0 where
-  pub split : text ≡ line ++ rest
-  pub shape : EndsInFeed line ⊎ (IsUnfinished line × (rest ≡ []))
 
 -- the line `p cnf V C`
 pub record IsHead (line : List ℕ) (variables count : ℕ) : Type 0 where
@@ -34,11 +14,6 @@ pub record IsHead (line : List ℕ) (variables count : ℕ) : Type 0 where
   pub numbers : words line ≡ codes "p" ∷ codes "cnf" ∷ decimal variables ∷ decimal count ∷ []
   pub few_variables : variables ≤ most
   pub few_clauses : count ≤ most
-
--- so many lines stand before what `May` follow
-pub record AreLines (May : List ℕ → Type 0) (before : List ℕ) (number : ℕ) : Type 0 where
-  pub count : length (lines_of before) ≡ number
-  pub whole : (more : List ℕ) → May more → lines_of (before ++ more) ≡ lines_of before ++ lines_of more
 
 -- all of them are comments
 pub record AreComments (before : List ℕ) : Type 0 where

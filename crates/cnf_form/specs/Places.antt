@@ -1,9 +1,10 @@
 -- Where the reader of a formula is.
 use Rattle.std.specs.Prelude.{◌≡◌, ◌≤◌, ◌+◌, ℕ, List, [], ◌++◌, length}
 use Rattle.cnf_form.specs.declared.front.Front.{Front}
-use Rattle.cnf_form.specs.Lines.{Begins}
+use Rattle.text_lines.specs.Lines.{Begins}
 use Rattle.cnf_form.specs.Forms.{IsFormulaText}
-use Rattle.cnf_form.specs.Passing.{AreLines, AreComments, AreClauseLines}
+use Rattle.text_lines.specs.Cutting.{AreLines}
+use Rattle.cnf_form.specs.Passing.{AreComments, AreClauseLines}
 use Rattle.cnf_form.specs.Reading.{front_words}
 
 -- what may follow the lines before `rest`: where it is empty their last one may lack its line feed, and nothing may

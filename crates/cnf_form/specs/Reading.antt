@@ -6,7 +6,7 @@ use Rattle.std.specs.HashSet.{contains}
 use Rattle.cnf_form.specs.declared.front.Front.{Front}
 use Rattle.cnf_form.specs.declared.course.Course.{Course}
 use Rattle.cnf_form.specs.declared.course.Course.TheVariants.{Fits, MayGrow, Breaks}
-use Rattle.cnf_form.specs.Passing.{HasNoFeed, EndsInFeed}
+use Rattle.text_lines.specs.Cutting.{HasNoFeed, EndsInFeed}
 use Rattle.cnf_form.specs.Literals.{most, IsLiteral, IsClause, AreClauses, NamesUpTo}
 use Rattle.cnf_form.specs.Forms.{words, begins_with, numbers_of, IsFormula}
 

@@ -1,7 +1,7 @@
 //! The texts of formulas, read.
 
 ghost use Rattle.std.specs.Prelude.{◌≡◌, ◌<◌, ◌≤◌, ◌^◌, length, IfOk, IfErr};
-ghost use Rattle.cnf_form.specs.Lines.{LeavesAt};
+ghost use Rattle.text_lines.specs.Lines.{LeavesAt};
 ghost use Rattle.cnf_form.specs.Literals.{most};
 ghost use Rattle.cnf_form.specs.Forms.{IsCnfText, IsFormulaText};
 ghost use Rattle.cnf_form.specs.Faults.{IsFaultOf};
@@ -10,12 +10,13 @@ ghost use Rattle.cnf_form.specs.Places.{BehindHead, InClauses};
 
 use crate::clause_line::read_words;
 use crate::cnf::Cnf;
+use crate::comment::is_comment;
 use crate::course::Course;
 use crate::form_fault::FormFault;
 use crate::front::Front;
 use crate::head::{Head, head_of};
-use crate::line::{first_line, is_comment};
 use std::alloc::{AllocError, Global};
+use text_lines::first_line;
 
 // What a formula's text says before its clauses, and where they begin.
 #[derive(Drop)]

@@ -3,7 +3,8 @@
 ghost use Rattle.std.specs.Prelude.{◌≡◌, ◌≤◌, ◌↔◌, ◌⊎◌, [], ◌∷◌, true, codes, decimal, IsTrue};
 ghost use Rattle.cnf_form.specs.Literals.{most};
 ghost use Rattle.cnf_form.specs.Forms.{begins_with};
-ghost use Rattle.cnf_form.specs.Passing.{EndsInFeed, IsUnfinished, UpTo, IsHeadOf, LacksWord};
+ghost use Rattle.text_lines.specs.Cutting.{EndsInFeed, IsUnfinished};
+ghost use Rattle.cnf_form.specs.Passing.{UpTo, IsHeadOf, LacksWord};
 
 use crate::cnf::MOST;
 use crate::number::number_of;

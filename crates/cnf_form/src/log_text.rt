@@ -6,12 +6,12 @@ ghost use Rattle.cnf_form.specs.Faults.{IsFaultOf};
 ghost use Rattle.cnf_form.specs.LogReading.{InLog};
 
 use crate::form_fault::FormFault;
-use crate::line::first_line;
 use crate::log::{Log, LogLine};
 use crate::log_head::{LogHead, log_head_of};
 use crate::log_line::{LogCourse, read_log_line};
 use sqlite_items::Items;
 use std::alloc::{AllocError, Global};
+use text_lines::first_line;
 
 /// The log that a text says. The text is read exactly as `write_log` writes it: the line `p log N`, and then N lines,
 /// each with the literals of its clause, each followed by a blank, `0`, and per hint a blank and the hint's number plus

@@ -1,6 +1,6 @@
 //! Numbers in decimal, as they are written: without a leading zero.
 
-ghost use Rattle.std.specs.Prelude.{◌≡◌, ◌<◌, ◌≤◌, ◌^◌, ◌↔◌, IsTrue, length, slice_index};
+ghost use Rattle.std.specs.Prelude.{◌≤◌, ◌^◌};
 ghost use Rattle.cnf_form.specs.Numbers.{IsNumberOf, IsIntegerOf};
 
 use crate::cnf::MOST;
@@ -10,30 +10,11 @@ pub(crate) fn number_of(bytes: &[u8], limit: u64) -> Option<u64>
     requires { limit ≤ 2 ^ 32 }
     ensures { IsNumberOf limit bytes.now result }
 {
-    if bytes.is_empty() {
+    let number = text_lines::number_of(bytes)?;
+    if number > u128::from(limit) {
         return None;
     }
-    if has_leading_zero(bytes) {
-        return None;
-    }
-    let mut value: u64 = 0;
-    for byte in bytes {
-        if !byte.is_ascii_digit() {
-            return None;
-        }
-        value = value * 10 + u64::from(*byte - b'0');
-        if value > limit {
-            return None;
-        }
-    }
-    Some(value)
-}
-
-// Whether there are at least two bytes, and the first is the digit 0.
-fn has_leading_zero(bytes: &[u8]) -> bool
-    ensures { IsTrue result ↔ ((1 < length bytes.now) × (slice_index bytes.now 0 ≡ 48)) }
-{
-    bytes.len() > 1 && bytes[0] == b'0'
+    Some(number as u64)
 }
 
 /// The integer, of magnitude 2,147,483,647 at most, that these bytes write.

@@ -1,6 +1,6 @@
 use Rattle.std.proofs.Common.{length, subst, arith}
 use Rattle.cnf_form.specs.Reading.{TakesTold}
-use Rattle.cnf_form.proofs.Leaving.{not_empty, is_empty}
+use Rattle.text_lines.proofs.Leaving.{not_empty, is_empty}
 use Rattle.cnf_form.proofs.Placing.{next_clauses, no_clauses_here, clauses_cut_off, missing_clauses, whole_text, shorter}
 use Rattle.cnf_form.proofs.formula.read_clauses.Goals as goal
 

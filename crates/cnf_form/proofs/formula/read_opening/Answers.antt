@@ -1,6 +1,6 @@
 use Rattle.std.proofs.Common.{◌≡◌, length, true, false, sym, ◌∙◌}
 use Rattle.cnf_form.specs.Forms.{begins_with}
-use Rattle.cnf_form.proofs.Leaving.{not_empty, is_empty}
+use Rattle.text_lines.proofs.Leaving.{not_empty, is_empty}
 use Rattle.cnf_form.proofs.Placing.{at_beginning, next_comment, next_head, no_head_here, head_cut_off, only_comments, shorter}
 use Rattle.cnf_form.proofs.formula.read_opening.Goals as goal
 

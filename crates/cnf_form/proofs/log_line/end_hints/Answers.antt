@@ -1,6 +1,6 @@
 use Rattle.std.proofs.Common.{length, sym, ◌∙◌, arith}
 use Rattle.std.proofs.lemmas.Bool.{false≢true}
-use Rattle.cnf_form.proofs.Leaving.{not_empty, is_empty}
+use Rattle.text_lines.proofs.Leaving.{not_empty, is_empty}
 use Rattle.cnf_form.proofs.LogLines.{hints_end, hints_grow_at_once, hints_grow_by, open_stray_hint, nothing_is}
 use Rattle.cnf_form.proofs.log_line.end_hints.Goals as goal
 

@@ -1,6 +1,6 @@
 use Rattle.std.proofs.Common.{length, sym, ◌∙◌}
 use Rattle.std.proofs.lemmas.Bool.{false≢true}
-use Rattle.cnf_form.proofs.Leaving.{is_empty}
+use Rattle.text_lines.proofs.Leaving.{is_empty}
 use Rattle.cnf_form.proofs.LogLines.{grows_at_once, grows_by, open_stray, nothing_is}
 use Rattle.cnf_form.proofs.log_line.open_clause.Goals as goal
 

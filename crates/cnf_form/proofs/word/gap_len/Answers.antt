@@ -1,6 +1,6 @@
 use Rattle.std.proofs.Common.{sym, ◌∙◌}
 use Rattle.cnf_form.specs.Forms.{is_gap}
-use Rattle.cnf_form.proofs.Wording.{all_more}
+use Rattle.text_lines.proofs.Bytes.{all_more}
 use Rattle.cnf_form.proofs.word.gap_len.Goals as goal
 
 pub loop-i-preserved : goal.loop-i-preserved

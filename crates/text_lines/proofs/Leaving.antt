@@ -4,9 +4,8 @@ use Rattle.std.specs.List.{flat_map}
 use Rattle.std.proofs.lemmas.List.{append-nil, take-append-le, take-append-drop, take_at}
 use Rattle.std.proofs.lemmas.Bool.{false≢true}
 use Rattle.std.proofs.lemmas.List.Concat.{flat_map-append}
-use Rattle.cnf_form.specs.Lines.{onto_first, lines_of, Begins, LeavesAt}
-use Rattle.cnf_form.specs.Passing.{AreLines}
-use Rattle.cnf_form.proofs.Advancing.{Anything}
+use Rattle.text_lines.specs.Lines.{onto_first, lines_of, Begins, LeavesAt}
+use Rattle.text_lines.specs.Cutting.{AreLines, Anything}
 
 concat_onto : (b : ℕ) (lines : List (List ℕ)) → flat_map (λ line. line) (onto_first b lines) ≡ b ∷ flat_map (λ line. line) lines
 concat_onto b [] = refl

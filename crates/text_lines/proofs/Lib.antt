@@ -1,0 +1,5 @@
+pub mod Bytes
+pub mod Decimals
+pub mod Joining
+pub mod Leaving
+pub mod Onward
