@@ -1,11 +1,8 @@
 //! The answers to the cases.
 
-use crate::numbers::{counts, integer, integers, limits, size};
 use crate::wrong::Wrong;
-use crate::{cases, rows};
-use bound_cert::{by_fits, dual_bound};
+use crate::{bounds, boxes, cases, lists, rows};
 use case_lines::{is_heading, parts};
-use lin_rows::{CountBox, Multipliers, Objective, Rows, meets};
 use std::alloc::{AllocError, Global};
 
 /// What is written for a line: a heading as it is, and for a case its answer.
@@ -21,142 +18,83 @@ pub(crate) fn told(alloc: Global, line: &str) -> Result<String, AllocError> {
 
 fn answer(alloc: Global, line: &str) -> Result<String, Wrong> {
     let parts = parts(alloc, line)?;
-    match parts.as_slice() {
-        [kind, text] => answer_of_one(alloc, kind, text),
-        [kind, first, second] => answer_of_two(alloc, kind, first, second),
-        [kind, first, second, third, fourth] => match *kind {
-            "fits" => fits(
-                alloc,
-                size(first)?,
-                second,
-                &multipliers(alloc, third, fourth)?,
-            ),
-            "last lines" => cases::last_lines(alloc, first, second, third, fourth),
-            _ => Err(Wrong::NoCase),
-        },
-        ["bound", rows, costs, limits, d, y] => {
-            bound(
-                alloc,
-                rows,
-                &objective(alloc, costs)?,
-                limits,
-                &multipliers(alloc, d, y)?,
-            )
+    by_number(alloc, parts.as_slice())
+}
+
+// The answer by the number of parts behind the kind of the case.
+fn by_number(alloc: Global, parts: &[&str]) -> Result<String, Wrong> {
+    match parts {
+        [kind, text] => with_one(alloc, kind, text),
+        [kind, first, second] => with_two(alloc, kind, first, second),
+        [kind, first, second, third] => with_three(alloc, kind, first, second, third),
+        [kind, first, second, third, fourth] => {
+            with_four(alloc, kind, first, second, third, fourth)
+        }
+        [kind, first, second, third, fourth, fifth] => {
+            with_five(alloc, kind, first, second, third, fourth, fifth)
         }
         _ => Err(Wrong::NoCase),
     }
 }
 
-fn answer_of_one(alloc: Global, kind: &str, text: &str) -> Result<String, Wrong> {
+fn with_one(alloc: Global, kind: &str, text: &str) -> Result<String, Wrong> {
     match kind {
-        "box" => count_box(alloc, text),
-        "objective" => {
-            let objective = objective(alloc, text)?;
-            let costs = objective.costs();
-            Ok(format!(in alloc; "{costs:?}")?)
-        }
+        "box" => boxes::made(alloc, text),
+        "objective" => lists::objective_again(alloc, text),
         _ => Err(Wrong::NoCase),
     }
 }
 
-fn answer_of_two(alloc: Global, kind: &str, first: &str, second: &str) -> Result<String, Wrong> {
+fn with_two(alloc: Global, kind: &str, first: &str, second: &str) -> Result<String, Wrong> {
     match kind {
-        "rows" => rows_again(alloc, first, second),
-        "multipliers" => {
-            let by = multipliers(alloc, first, second)?;
-            let d = by.d;
-            let y = by.y();
-            Ok(format!(in alloc; "{y:?} over {d}")?)
-        }
-        "meets" => meeting(alloc, first, second),
+        "rows" => rows::again(alloc, first, second),
+        "multipliers" => lists::multipliers_again(alloc, first, second),
+        "meets" => bounds::meeting(alloc, first, second),
+        "tighten" => boxes::tightened(alloc, first, second),
         "make" => cases::whole(alloc, first, second),
         _ => Err(Wrong::NoCase),
     }
 }
 
-fn objective(alloc: Global, costs: &str) -> Result<Objective, Wrong> {
-    Ok(Objective::new(counts(alloc, costs)?))
-}
-
-fn multipliers(alloc: Global, d: &str, y: &str) -> Result<Multipliers, Wrong> {
-    Ok(Multipliers::new(integer(d)?, integers(alloc, y)?))
-}
-
-fn rows_again(alloc: Global, edges: &str, text: &str) -> Result<String, Wrong> {
-    match rows::rows(alloc, size(edges)?, text)? {
-        Some(rows) => Ok(rows::written(alloc, &rows)?),
-        None => Ok("none".to_string(alloc)?),
-    }
-}
-
-fn count_box(alloc: Global, text: &str) -> Result<String, Wrong> {
-    let Some(within) = CountBox::new(limits(alloc, text)?) else {
-        return Ok("none".to_string(alloc)?);
-    };
-    let mut text = "ok".to_string(alloc)?;
-    for (least, greatest) in within.limits() {
-        let limit = format!(in alloc; " {least}..{greatest}")?;
-        text.push_str(limit.as_str())?;
-    }
-    Ok(text)
-}
-
-fn meeting(alloc: Global, rows: &str, counts_text: &str) -> Result<String, Wrong> {
-    let counts = counts(alloc, counts_text)?;
-    let edges = u32::try_from(counts.len()).ok().ok_or(Wrong::NoCase)?;
-    let rows = rows::rows(alloc, edges, rows)?.ok_or(Wrong::Refused)?;
-    if counts.len() != rows.edges as usize {
-        return Err(Wrong::Lengths);
-    }
-    let text = match meets(&rows, counts.as_slice()) {
-        Some(true) => "met",
-        Some(false) => "not met",
-        None => "leaves i128",
-    };
-    Ok(text.to_string(alloc)?)
-}
-
-fn fits(alloc: Global, edges: u32, rows: &str, by: &Multipliers) -> Result<String, Wrong> {
-    let rows = rows::rows(alloc, edges, rows)?.ok_or(Wrong::Refused)?;
-    let text = if by_fits(&rows, by) {
-        "fits"
-    } else {
-        "does not fit"
-    };
-    Ok(text.to_string(alloc)?)
-}
-
-fn bound(
+fn with_three(
     alloc: Global,
-    rows: &str,
-    objective: &Objective,
-    limits_text: &str,
-    by: &Multipliers,
+    kind: &str,
+    first: &str,
+    second: &str,
+    third: &str,
 ) -> Result<String, Wrong> {
-    let edges = u32::try_from(objective.costs().len())
-        .ok()
-        .ok_or(Wrong::NoCase)?;
-    let rows = rows::rows(alloc, edges, rows)?.ok_or(Wrong::Refused)?;
-    let within = CountBox::new(limits(alloc, limits_text)?).ok_or(Wrong::Refused)?;
-    match bound_of(&rows, objective, &within, by)? {
-        Some(bound) => Ok(format!(in alloc; "{bound}")?),
-        None => Ok("leaves i128".to_string(alloc)?),
+    match kind {
+        "split" => boxes::split(alloc, first, second, third),
+        _ => Err(Wrong::NoCase),
     }
 }
 
-// The dual value, where the lists have the lengths that it asks for and the multipliers fit.
-fn bound_of(
-    rows: &Rows,
-    objective: &Objective,
-    within: &CountBox,
-    by: &Multipliers,
-) -> Result<Option<i128>, Wrong> {
-    let edges = rows.edges as usize;
-    if objective.costs().len() != edges || within.limits().len() != edges {
-        return Err(Wrong::Lengths);
+fn with_four(
+    alloc: Global,
+    kind: &str,
+    first: &str,
+    second: &str,
+    third: &str,
+    fourth: &str,
+) -> Result<String, Wrong> {
+    match kind {
+        "fits" => bounds::fits(alloc, first, second, third, fourth),
+        "last lines" => cases::last_lines(alloc, first, second, third, fourth),
+        _ => Err(Wrong::NoCase),
     }
-    if !by_fits(rows, by) {
-        return Err(Wrong::Refused);
+}
+
+fn with_five(
+    alloc: Global,
+    kind: &str,
+    first: &str,
+    second: &str,
+    third: &str,
+    fourth: &str,
+    fifth: &str,
+) -> Result<String, Wrong> {
+    match kind {
+        "bound" => bounds::bound(alloc, first, second, third, fourth, fifth),
+        _ => Err(Wrong::NoCase),
     }
-    Ok(dual_bound(rows, objective, within, by))
 }

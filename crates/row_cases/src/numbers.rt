@@ -45,8 +45,12 @@ pub(crate) fn counts(alloc: Global, text: &str) -> Result<Vec<u64>, Wrong> {
 pub(crate) fn limits(alloc: Global, text: &str) -> Result<Vec<(u64, u64)>, Wrong> {
     let mut limits = Vec::new(alloc);
     for word in text.split_ascii_whitespace() {
-        let (least, greatest) = word.split_once("..").ok_or(Wrong::NoCase)?;
-        limits.push((count(least)?, count(greatest)?))?;
+        limits.push(limit(word)?)?;
     }
     Ok(limits)
+}
+
+fn limit(word: &str) -> Result<(u64, u64), Wrong> {
+    let (least, greatest) = word.split_once("..").ok_or(Wrong::NoCase)?;
+    Ok((count(least)?, count(greatest)?))
 }

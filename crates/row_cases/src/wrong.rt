@@ -1,6 +1,5 @@
 //! Why a case has no answer.
 
-use case_maker::NoMemory;
 use std::alloc::{AllocError, AllocFailed, Global};
 
 /// Why a case has no answer of its own.
@@ -41,8 +40,14 @@ impl<T: Drop> From<AllocFailed<T>> for Wrong {
     }
 }
 
-impl From<NoMemory> for Wrong {
-    fn from(_: NoMemory) -> Wrong {
+impl From<case_maker::NoMemory> for Wrong {
+    fn from(_: case_maker::NoMemory) -> Wrong {
+        Wrong::NoMemory
+    }
+}
+
+impl From<c_tree::NoMemory> for Wrong {
+    fn from(_: c_tree::NoMemory) -> Wrong {
         Wrong::NoMemory
     }
 }
