@@ -2,108 +2,21 @@
 //! and so bounds the recursion. It is at most 128 in `parse`; that it and the heights of parts are asked to be less
 //! than 1,000 keeps the heights that are computed far from an overflow.
 
-ghost use Rattle.std.specs.Prelude.{◌≡◌, ◌-◌, ◌+◌, ◌<◌, ◌≤◌, max, [], length, Ok, IfOk};
+ghost use Rattle.std.specs.Prelude.{◌≡◌, ◌-◌, ◌+◌, ◌<◌, ◌≤◌, length, IfOk};
 ghost use Rattle.parse_laws.specs.ReadExpr as spec;
 ghost use Rattle.c_parse.specs.Reads.{Reads};
-ghost use Rattle.c_tree.specs.Heights as of;
 
-use crate::measured::MeasuredExpr;
 use crate::reader::Reader;
-use crate::symbol::{binds, level, unary_operator};
-use c_tree::{BinOp, RawExpr, Spot, Symbol, Ty, UnOp};
+use c_symbols::{
+    MeasuredExpr, binary, binds, cast, conditional, element, level, measured, parenthesised, scalar,
+    unary, unary_operator,
+};
+use c_tree::{BinOp, RawExpr, Symbol, UnOp};
 use parse_laws::{Fault, Next};
 use sqlite_items::Boxed;
-use std::alloc::Global;
 
 /// The level of the unary operators and casts.
 const UNARY: u8 = 11;
-
-fn measured(alloc: Global, expr: RawExpr, height: usize) -> Result<MeasuredExpr, Fault>
-    requires { height ≡ of.height expr }
-    ensures low { IfOk result (λ t. t.height ≡ height) }
-    ensures reads { Reads (λ t. t.expr) (Ok (expr, [])) result [] }
-{
-    Ok(MeasuredExpr {
-        expr: Boxed::new(alloc, expr)?,
-        height,
-    })
-}
-
-#[tactic(auto, using(parse_laws::proofs::Layers::height_layers))]
-fn scalar(alloc: Global, spot: Spot) -> Result<MeasuredExpr, Fault>
-    ensures low { IfOk result (λ t. t.height ≡ 1) }
-    ensures reads { Reads (λ t. t.expr) (Ok (RawExpr.Name spot, [])) result [] }
-{
-    measured(alloc, RawExpr::Name(spot), 1)
-}
-
-#[tactic(auto, using(parse_laws::proofs::Layers::height_layers))]
-fn element(alloc: Global, spot: Spot, a: MeasuredExpr) -> Result<MeasuredExpr, Fault>
-    requires { a.height < 1000 }
-    ensures low { IfOk result (λ t. t.height ≡ a.height + 1) }
-    ensures reads { Reads (λ t. t.expr) (Ok (RawExpr.Elem spot a.expr, [])) result [] }
-{
-    let height = a.height + 1;
-    measured(alloc, RawExpr::Elem(spot, a.expr), height)
-}
-
-#[tactic(auto, using(parse_laws::proofs::Layers::height_layers))]
-fn unary(alloc: Global, at: u32, op: UnOp, a: MeasuredExpr) -> Result<MeasuredExpr, Fault>
-    requires { a.height < 1000 }
-    ensures low { IfOk result (λ t. t.height ≡ a.height + 1) }
-    ensures reads { Reads (λ t. t.expr) (Ok (RawExpr.Un at op a.expr, [])) result [] }
-{
-    let height = a.height + 1;
-    measured(alloc, RawExpr::Un(at, op, a.expr), height)
-}
-
-#[tactic(auto, using(parse_laws::proofs::Layers::height_layers))]
-fn cast(alloc: Global, at: u32, ty: Ty, a: MeasuredExpr) -> Result<MeasuredExpr, Fault>
-    requires { a.height < 1000 }
-    ensures low { IfOk result (λ t. t.height ≡ a.height + 1) }
-    ensures reads { Reads (λ t. t.expr) (Ok (RawExpr.Cast at ty a.expr, [])) result [] }
-{
-    let height = a.height + 1;
-    measured(alloc, RawExpr::Cast(at, ty, a.expr), height)
-}
-
-#[tactic(auto, using(parse_laws::proofs::Layers::height_layers))]
-fn parenthesised(alloc: Global, at: u32, inner: MeasuredExpr) -> Result<MeasuredExpr, Fault>
-    requires { inner.height < 1000 }
-    ensures low { IfOk result (λ t. t.height ≡ inner.height + 1) }
-    ensures reads { Reads (λ t. t.expr) (Ok (RawExpr.Paren at inner.expr, [])) result [] }
-{
-    let height = inner.height + 1;
-    measured(alloc, RawExpr::Paren(at, inner.expr), height)
-}
-
-#[tactic(auto, using(parse_laws::proofs::Layers::height_layers))]
-fn binary(alloc: Global, op: BinOp, a: MeasuredExpr, b: MeasuredExpr) -> Result<MeasuredExpr, Fault>
-    requires a { a.height < 1000 }
-    requires b { b.height < 1000 }
-    ensures low { IfOk result (λ t. t.height ≡ max a.height b.height + 1) }
-    ensures reads { Reads (λ t. t.expr) (Ok (RawExpr.Bin op a.expr b.expr, [])) result [] }
-{
-    let height = a.height.max(b.height) + 1;
-    measured(alloc, RawExpr::Bin(op, a.expr, b.expr), height)
-}
-
-#[tactic(auto, using(parse_laws::proofs::Layers::height_layers))]
-fn conditional(
-    alloc: Global,
-    a: MeasuredExpr,
-    b: MeasuredExpr,
-    c: MeasuredExpr,
-) -> Result<MeasuredExpr, Fault>
-    requires a { a.height < 1000 }
-    requires b { b.height < 1000 }
-    requires c { c.height < 1000 }
-    ensures low { IfOk result (λ t. t.height ≡ max a.height (max b.height c.height) + 1) }
-    ensures reads { Reads (λ t. t.expr) (Ok (RawExpr.Cond a.expr b.expr c.expr, [])) result [] }
-{
-    let height = a.height.max(b.height.max(c.height)) + 1;
-    measured(alloc, RawExpr::Cond(a.expr, b.expr, c.expr), height)
-}
 
 /// The expression in the box, if there is one.
 pub(crate) fn unboxed(value: Option<Boxed<RawExpr>>) -> Option<RawExpr>

@@ -6,12 +6,10 @@
 mod decl;
 mod expr;
 mod fault;
-mod measured;
 mod parsing;
 mod reader;
 mod simple;
 mod stmt;
-mod symbol;
 mod unit;
 
 pub use fault::ParseFault;

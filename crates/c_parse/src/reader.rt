@@ -9,7 +9,7 @@ ghost use Rattle.parse_laws.specs.Lexeme.{constant, loop_bound};
 ghost use Rattle.parse_laws.specs.Parser as spec;
 ghost use Rattle.c_parse.specs.Reads.{Reads};
 
-use crate::symbol::{bound_of, constant_of, next_of, symbol_of};
+use c_symbols::{bound_of, constant_of, next_of, symbol_of};
 use c_tree::{Name, RawBound, RawExpr, Spot, Symbol, Token, Ty};
 use parse_laws::{Fault, Next};
 use std::alloc::{AllocError, Global};

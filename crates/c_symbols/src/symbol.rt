@@ -1,12 +1,9 @@
 //! Which word or mark of the grammar a token is.
 
 ghost use Rattle.std.specs.Prelude.{◌≡◌, ℕ, List, map};
-ghost use Rattle.c_tree.specs.SpelledExpressions as grammar;
 ghost use Rattle.c_tree.specs.Symbols as spec;
-ghost use Rattle.parse_laws.specs.Going as reading;
 
-use c_tree::{BinOp, Kind, Symbol, Ty, UnOp};
-use parse_laws::Next;
+use c_tree::{BinOp, Kind, Symbol, Ty};
 
 /// The keywords of the grammar (C11 6.4.1), with their symbols.
 const WORDS: [(&[u8], Symbol); 15] = [
@@ -99,7 +96,7 @@ fn mark(spelling: &[u8]) -> Symbol
 }
 
 /// The symbol of a token of this kind with these bytes.
-pub(crate) fn symbol_of(kind: Kind, spelling: &[u8]) -> Symbol
+pub fn symbol_of(kind: Kind, spelling: &[u8]) -> Symbol
     ensures { result ≡ spec.symbol_of kind spelling.now }
 {
     match kind {
@@ -112,7 +109,7 @@ pub(crate) fn symbol_of(kind: Kind, spelling: &[u8]) -> Symbol
 }
 
 /// The type and the value of an integer constant; `int` and 0 for any other token.
-pub(crate) fn constant_of(kind: Kind) -> (Ty, u32)
+pub fn constant_of(kind: Kind) -> (Ty, u32)
     ensures ty { result.0 ≡ spec.type_of kind }
     ensures value { (bytes : List ℕ) → spec.symbol_of kind bytes ≡ Symbol.Number → result.1 ≡ spec.value_of kind }
 {
@@ -130,64 +127,11 @@ pub(crate) fn constant_of(kind: Kind) -> (Ty, u32)
 }
 
 /// The number of a loop bound; 0 for any other token.
-pub(crate) fn bound_of(kind: Kind) -> u64
+pub fn bound_of(kind: Kind) -> u64
     ensures { (bytes : List ℕ) → spec.symbol_of kind bytes ≡ Symbol.Bound → result ≡ spec.value_of kind }
 {
     match kind {
         Kind::Bound(number) => number,
         _ => 0,
-    }
-}
-
-/// How an expression goes on with the symbol.
-pub(crate) fn next_of(symbol: Option<Symbol>) -> Next
-    ensures { result ≡ reading.next_of symbol }
-{
-    match symbol {
-        Some(Symbol::Question) => Next::Ask,
-        Some(Symbol::Operator(operator)) => Next::By(operator),
-        _ => Next::Stop,
-    }
-}
-
-/// Whether an expression of the level `least` goes on so.
-pub(crate) fn binds(least: u8, next: Next) -> bool
-    ensures { result ≡ reading.binds least next }
-{
-    match next {
-        Next::Stop => false,
-        Next::Ask => least == 0,
-        Next::By(operator) => least <= level(operator),
-    }
-}
-
-/// The unary operator that the symbol is.
-pub(crate) fn unary_operator(symbol: Symbol) -> Option<UnOp>
-    ensures { result ≡ grammar.unary_operator symbol }
-{
-    match symbol {
-        Symbol::Operator(BinOp::Add) => Some(UnOp::Plus),
-        Symbol::Operator(BinOp::Sub) => Some(UnOp::Minus),
-        Symbol::Tilde => Some(UnOp::Flip),
-        Symbol::Exclamation => Some(UnOp::Not),
-        _ => None,
-    }
-}
-
-/// How tightly a binary operator binds.
-pub(crate) fn level(operator: BinOp) -> u8
-    ensures { result ≡ grammar.level operator }
-{
-    match operator {
-        BinOp::Either => 1,
-        BinOp::Both => 2,
-        BinOp::Or => 3,
-        BinOp::Xor => 4,
-        BinOp::And => 5,
-        BinOp::Eq | BinOp::Ne => 6,
-        BinOp::Lt | BinOp::Gt | BinOp::Le | BinOp::Ge => 7,
-        BinOp::Shl | BinOp::Shr => 8,
-        BinOp::Add | BinOp::Sub => 9,
-        BinOp::Mul | BinOp::Div | BinOp::Rem => 10,
     }
 }
