@@ -1,0 +1,4 @@
+pub mod Covers
+pub mod Unique
+pub mod Counting
+pub mod Standing
