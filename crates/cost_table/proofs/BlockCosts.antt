@@ -13,8 +13,8 @@ use Rattle.c_tree.specs.Blocks.{list_blocks}
 use Rattle.c_tree.specs.Claims.{AreRowsOf}
 use Rattle.cost_table.specs.declared.fault.CostFault.{CostFault}
 use Rattle.cost_table.specs.declared.fault.CostFault.TheVariants.{Number, Missing}
-use Rattle.cost_table.specs.Documents.{default, entries, cost_in}
-use Rattle.cost_table.specs.Tables.{block_name, names_of, names, first_without, first_missing, number_fault, given, cost_of, costs_of, fault_of, judged}
+use Rattle.cost_document.specs.Documents.{default, entries, cost_in, given}
+use Rattle.cost_table.specs.Tables.{block_name, names_of, names, first_without, first_missing, number_fault, cost_of, costs_of, fault_of, judged}
 use Rattle.cost_table.proofs.Entries.{none_fails}
 use Rattle.cost_table.proofs.KnownNames.{range_left}
 

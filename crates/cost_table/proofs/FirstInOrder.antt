@@ -6,8 +6,8 @@ use Rattle.std.specs.Cmp.Lexicographic.{slice_cmp}
 use Rattle.std.proofs.lemmas.Bool.{cases_Bool, true≢false}
 use Rattle.std.proofs.lemmas.Cmp.{nat_list_cmp_total}
 use Rattle.toml.specs.Data.{Data, Members, no_members, member}
-use Rattle.cost_table.specs.Documents.{earlier, first_key}
-use Rattle.cost_table.proofs.Reading.{equal_is}
+use Rattle.cost_document.specs.Documents.{earlier, first_key}
+use Rattle.cost_document.proofs.Reading.{equal_is}
 use Rattle.cost_table.specs.Orders.{IsFirstKey, IsFirstOrNone}
 
 -- ---- byte order

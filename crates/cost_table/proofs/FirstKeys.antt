@@ -9,7 +9,7 @@ use Rattle.std.specs.Cmp.Lexicographic.{slice_cmp}
 use Rattle.toml.specs.declared.value.Value.{Value}
 use Rattle.toml.specs.Data.{Data}
 use Rattle.toml.specs.View.{view, members_view}
-use Rattle.cost_table.specs.Documents.{earlier, first_key}
+use Rattle.cost_document.specs.Documents.{earlier, first_key}
 
 abbrev pub Entry : Type 0
 Entry = String Global × Value

@@ -6,9 +6,10 @@ use Rattle.std.specs.Str.{bytes_eq}
 use Rattle.std.proofs.lemmas.Slice.Eq.{bytes_eq-Decides}
 use Rattle.toml.specs.Data.{Members}
 use Rattle.c_tree.specs.declared.program.Func.{Func}
+use Rattle.cost_document.specs.Documents.{given}
 use Rattle.cost_table.specs.declared.fault.CostFault.{CostFault}
 use Rattle.cost_table.specs.declared.fault.CostFault.TheVariants.{Missing}
-use Rattle.cost_table.specs.Tables.{names, names_block, version_fault, key_fault, block_fault, number_fault, missing_fault, first_missing, first_fault, fault_of, given}
+use Rattle.cost_table.specs.Tables.{names, names_block, version_fault, key_fault, block_fault, number_fault, missing_fault, first_missing, first_fault, fault_of}
 use Rattle.cost_table.proofs.BlockCosts.{given_nothing, given_cost}
 
 none_first : (o : Option CostFault) (rest : List (Option CostFault)) → first_fault (o ∷ rest) ≡ None → (o ≡ None) × (first_fault rest ≡ None)

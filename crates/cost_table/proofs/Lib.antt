@@ -1,4 +1,3 @@
-pub mod Reading
 pub mod FirstKeys
 pub mod KnownNames
 pub mod Entries

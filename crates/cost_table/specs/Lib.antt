@@ -1,4 +1,3 @@
-pub mod Documents
 pub mod Orders
 pub mod Tables
 pub mod Worked

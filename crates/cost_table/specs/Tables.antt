@@ -1,6 +1,5 @@
 -- What a table of costs says of a program: its first fault, or the costs. This project's own.
-use Rattle.std.specs.Prelude.{◌≡◌, ◌++◌, codes, decimal, ℕ, Bool, false, map, List, [], ◌∷◌, not, if◌then◌else◌, Option, Some, None, is_some, is_none, option_map, option_and_then, unwrap_or, Result, Ok, Err, replicate}
-use Rattle.std.specs.Option.{option_or}
+use Rattle.std.specs.Prelude.{◌≡◌, ◌++◌, codes, decimal, ℕ, Bool, false, map, List, [], ◌∷◌, not, if◌then◌else◌, Option, Some, None, is_some, is_none, option_map, unwrap_or, Result, Ok, Err, replicate}
 use Rattle.std.specs.List.{list_any, flat_map, range_with_len}
 use Rattle.std.specs.Str.{bytes_eq}
 use Rattle.toml.specs.Data.{Members, get_member}
@@ -10,7 +9,7 @@ use Rattle.c_tree.specs.declared.program.Costs.{Costs}
 use Rattle.c_tree.specs.Blocks.{list_blocks}
 use Rattle.cost_table.specs.declared.fault.CostFault.{CostFault}
 use Rattle.cost_table.specs.declared.fault.CostFault.TheVariants.{NotToml, Version, Key, Block, Number, Missing}
-use Rattle.cost_table.specs.Documents.{document, version, default, entries, is_stray, is_one, cost_in, first_key}
+use Rattle.cost_document.specs.Documents.{document, version, default, entries, is_stray, is_one, cost_in, given, first_key}
 
 -- ---- the names of the blocks
 
@@ -73,10 +72,6 @@ first_fault (Some fault ∷ rest) = Some fault
 abbrev pub fault_of : List Func → Members → Option CostFault
 fault_of fs ms =
     first_fault (version_fault ms ∷ key_fault ms ∷ block_fault fs ms ∷ number_fault ms ∷ missing_fault fs ms ∷ [])
-
--- a block's entry, or else `default`
-abbrev pub given : Members → List ℕ → Option ℕ
-given ms name = option_and_then cost_in (option_or (get_member name (entries ms)) (default ms))
 
 -- a block's cost. Where there is no fault, one is given
 abbrev pub cost_of : Members → List ℕ → ℕ

@@ -3,11 +3,11 @@
 ghost use Rattle.std.specs.Prelude.{◌≡◌, not, option_map, is_none};
 ghost use Rattle.std.specs.BTreeSet.{contains_text};
 ghost use Rattle.toml.specs.View.{table_view};
-ghost use Rattle.cost_table.specs.Documents.{first_key, is_stray, entries, cost_in};
+ghost use Rattle.cost_document.specs.Documents.{first_key, is_stray, entries, cost_in};
 ghost use Rattle.cost_table.specs.Tables.{number_fault};
 
-use crate::document::{cost_in, cost_table, default, is_stray};
 use crate::fault::CostFault;
+use cost_document::{cost_in, cost_table, default, is_stray};
 use std::collections::BTreeSet;
 use toml::Table;
 

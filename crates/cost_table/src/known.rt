@@ -6,12 +6,12 @@ ghost use Rattle.std.specs.List.{list_any};
 ghost use Rattle.std.specs.Str.{bytes_eq};
 ghost use Rattle.toml.specs.Data.{get_member};
 ghost use Rattle.toml.specs.View.{table_view};
-ghost use Rattle.cost_table.specs.Documents.{entries};
+ghost use Rattle.cost_document.specs.Documents.{entries};
 ghost use Rattle.cost_table.specs.Tables.{names_of, names_block};
 
 use crate::blocks::{block_count, block_name};
-use crate::document::entry;
 use c_tree::{Func, NoMemory};
+use cost_document::entry;
 use std::alloc::Global;
 use std::collections::BTreeSet;
 use toml::Table;

@@ -3,9 +3,9 @@
 ghost use Rattle.std.specs.Prelude.{◌≡◌, ℕ, List, [], ◌∷◌, Bool, true, None, IsSome, Ok, Err, codes};
 ghost use Rattle.toml.specs.Data.{Data, Members};
 ghost use Rattle.c_tree.specs.declared.program.Func.{Func};
-ghost use Rattle.cost_table.specs.Documents.{first_key};
+ghost use Rattle.cost_document.specs.Documents.{first_key, given};
 ghost use Rattle.cost_table.specs.Orders.{IsFirstOrNone};
-ghost use Rattle.cost_table.specs.Tables.{names_block, fault_of, given, verdict, plain};
+ghost use Rattle.cost_table.specs.Tables.{names_block, fault_of, verdict, plain};
 ghost use Rattle.cost_table.specs.Worked.{two_blocks};
 
 use crate::fault::CostFault;

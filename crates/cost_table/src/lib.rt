@@ -5,7 +5,6 @@
 #![tactic(auto)]
 
 mod blocks;
-mod document;
 mod fault;
 mod first;
 mod known;

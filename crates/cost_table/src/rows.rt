@@ -7,9 +7,9 @@ ghost use Rattle.toml.specs.View.{table_view};
 ghost use Rattle.cost_table.specs.Tables as spec;
 
 use crate::blocks::{block_count, block_name};
-use crate::document::{cost_in, default, entry};
 use crate::fault::CostFault;
 use c_tree::{Func, Name, NoMemory};
+use cost_document::given;
 use sqlite_items::Items;
 use std::alloc::Global;
 use toml::Table;
@@ -50,17 +50,6 @@ fn row(alloc: Global, func: &Func, document: &Table) -> Result<Items<u32>, CostF
         row.push(cost)?;
     }
     Ok(row)
-}
-
-// The cost of the block of this name, where the table gives one: its entry, or else `default`.
-fn given(document: &Table, name: &[u8]) -> Option<u32>
-    ensures { result ≡ spec.given (table_view document.now) name.now }
-{
-    let value = match entry(document, name) {
-        Some(value) => value,
-        None => default(document)?,
-    };
-    cost_in(value)
 }
 
 /// A list for each function, with a 1 for each of its blocks.

@@ -3,14 +3,15 @@
 ghost use Rattle.std.specs.Prelude.{◌≡◌, ◌≢◌, Ok, Err, IfOk, IfErr, OnOk, OnErr, None, Some};
 ghost use Rattle.c_tree.specs.Claims.{AreCostsOf};
 ghost use Rattle.toml.specs.View.{table_view};
+ghost use Rattle.cost_document.specs.Documents.{document};
 ghost use Rattle.cost_table.specs.Tables.{IsTable, verdict, plain, judged, fault_of, costs_of, version_fault, key_fault, block_fault, number_fault};
 
-use crate::document::{has_version_one, read};
 use crate::fault::CostFault;
 use crate::first::{first_no_number, first_stray, first_unknown};
 use crate::known::known_names;
 use crate::rows::{plain_rows, rows};
 use c_tree::{Costs, Func, Name, NoMemory, Program};
+use cost_document::has_version_one;
 use std::alloc::Global;
 use toml::Table;
 
@@ -39,6 +40,23 @@ pub fn plain_costs(alloc: Global, program: &Program) -> Result<Costs, NoMemory>
 {
     let by_func = plain_rows(alloc, program.funcs.as_slice())?;
     Ok(Costs { by_func })
+}
+
+// The document that the bytes spell.
+fn read(alloc: Global, text: &[u8]) -> Result<Table, CostFault>
+    ensures document { IfOk result (λ t. document text.now ≡ Some (table_view t)) }
+    ensures refused { IfErr result (λ e. e ≢ CostFault.NoMemory → document text.now ≡ None) }
+    ensures fault { IfErr result (λ e. e ≢ CostFault.NoMemory → e ≡ CostFault.NotToml) }
+{
+    match toml::table_from_slice(alloc, text) {
+        Ok(document) => Ok(document),
+        Err(error) => {
+            if error.is_memory() {
+                return Err(CostFault::NoMemory);
+            }
+            Err(CostFault::NotToml)
+        }
+    }
 }
 
 // The costs that a document gives.

@@ -1,7 +1,7 @@
 use Rattle.std.proofs.Common.{rules, ap, Some, sym, ◌∙◌}
 use Rattle.std.specs.Map.Iter.{deref_pair}
 use Rattle.std.proofs.lemmas.Map.Iter.{rest_more}
-use Rattle.cost_table.specs.Documents.{is_stray}
+use Rattle.cost_document.specs.Documents.{is_stray}
 use Rattle.cost_table.proofs.FirstKeys.{found, goes_on}
 use Rattle.cost_table.proofs.first.first_stray.Goals as goal
 

@@ -1,4 +1,4 @@
-use Rattle.cost_table.specs.Documents.{is_stray}
+use Rattle.cost_document.specs.Documents.{is_stray}
 use Rattle.cost_table.proofs.FirstKeys.{Keeps}
 use Rattle.cost_table.proofs.first.first_stray.Given as goal
 

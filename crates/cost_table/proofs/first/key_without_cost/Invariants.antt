@@ -1,5 +1,5 @@
 use Rattle.std.specs.Prelude.{is_none}
-use Rattle.cost_table.specs.Documents.{cost_in}
+use Rattle.cost_document.specs.Documents.{cost_in}
 use Rattle.cost_table.proofs.FirstKeys.{Keeps}
 use Rattle.cost_table.proofs.first.key_without_cost.Given as goal
 

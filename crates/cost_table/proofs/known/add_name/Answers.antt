@@ -4,7 +4,7 @@ use Rattle.std.specs.Str.{bytes_eq}
 use Rattle.std.specs.BTreeSet.{contains_text}
 use Rattle.toml.specs.Data.{get_member}
 use Rattle.toml.specs.View.{view, table_view}
-use Rattle.cost_table.specs.Documents.{entries}
+use Rattle.cost_document.specs.Documents.{entries}
 use Rattle.cost_table.proofs.KnownNames.{inserted, is_there}
 use Rattle.cost_table.proofs.known.add_name.Goals as goal
 

@@ -5,7 +5,7 @@ use Rattle.std.specs.Str.{bytes_eq}
 use Rattle.std.specs.BTreeSet.{contains_text}
 use Rattle.toml.specs.Data.{get_member}
 use Rattle.toml.specs.View.{table_view}
-use Rattle.cost_table.specs.Documents.{entries}
+use Rattle.cost_document.specs.Documents.{entries}
 use Rattle.cost_table.specs.Tables.{block_name}
 use Rattle.cost_table.proofs.KnownNames.{any_more, range_left}
 use Rattle.cost_table.proofs.known.add_names.Goals as goal

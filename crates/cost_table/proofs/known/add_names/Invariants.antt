@@ -5,7 +5,7 @@ use Rattle.std.specs.List.{list_any, range_with_len}
 use Rattle.std.specs.Str.{bytes_eq}
 use Rattle.toml.specs.Data.{get_member}
 use Rattle.toml.specs.View.{table_view}
-use Rattle.cost_table.specs.Documents.{entries}
+use Rattle.cost_document.specs.Documents.{entries}
 use Rattle.cost_table.specs.Tables.{names_of, block_name}
 use Rattle.cost_table.proofs.known.add_names.Given as goal
 

@@ -3,7 +3,7 @@ use Rattle.std.specs.Prelude.{is_some}
 use Rattle.std.specs.BTreeSet.{contains_text}
 use Rattle.toml.specs.Data.{get_member}
 use Rattle.toml.specs.View.{table_view}
-use Rattle.cost_table.specs.Documents.{entries}
+use Rattle.cost_document.specs.Documents.{entries}
 use Rattle.cost_table.specs.Tables.{names_block}
 use Rattle.cost_table.proofs.known.known_names.Given as goal
 

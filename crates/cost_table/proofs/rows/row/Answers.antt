@@ -1,7 +1,7 @@
 use Rattle.std.proofs.Common.{◌≡◌, ap, sym, ◌∙◌, Some, None}
 use Rattle.toml.specs.View.{table_view}
+use Rattle.cost_document.specs.Documents.{given}
 use Rattle.cost_table.specs.declared.fault.CostFault.TheVariants.{Missing}
-use Rattle.cost_table.specs.Tables.{given}
 use Rattle.cost_table.proofs.BlockCosts.{block_missing, block_not_missing, block_costs}
 use Rattle.cost_table.proofs.rows.row.Goals as goal
 

@@ -3,7 +3,7 @@ use Rattle.std.specs.Prelude.{option_map}
 use Rattle.toml.specs.View.{table_view}
 use Rattle.std.specs.BTreeSet.{contains_text}
 use Rattle.cost_table.specs.declared.fault.CostFault.TheVariants.{Block}
-use Rattle.cost_table.specs.Documents.{entries}
+use Rattle.cost_document.specs.Documents.{entries}
 use Rattle.cost_table.specs.Tables.{names_block}
 use Rattle.cost_table.proofs.Entries.{same_first_unknown}
 use Rattle.cost_table.proofs.table.check_blocks.Goals as goal

@@ -1,30 +1,11 @@
-//! The document of a table, and what its keys hold.
+//! What the keys of the document of a table hold.
 
-ghost use Rattle.std.specs.Prelude.{◌≡◌, ◌≢◌, Some, None, false, option_map, option_and_then, unwrap_or, IfOk, IfErr, OnSome, IsUtf8, codes};
+ghost use Rattle.std.specs.Prelude.{◌≡◌, false, option_map, option_and_then, unwrap_or, OnSome, IsUtf8, codes};
 ghost use Rattle.toml.specs.Data.{as_table, get_member};
 ghost use Rattle.toml.specs.View.{view, table_view};
-ghost use Rattle.cost_table.specs.Documents as spec;
+ghost use Rattle.cost_document.specs.Documents as spec;
 
-use crate::fault::CostFault;
-use std::alloc::Global;
 use toml::{Table, Value};
-
-/// The document that the bytes spell.
-pub(crate) fn read(alloc: Global, text: &[u8]) -> Result<Table, CostFault>
-    ensures document { IfOk result (λ t. spec.document text.now ≡ Some (table_view t)) }
-    ensures refused { IfErr result (λ e. e ≢ CostFault.NoMemory → spec.document text.now ≡ None) }
-    ensures fault { IfErr result (λ e. e ≢ CostFault.NoMemory → e ≡ CostFault.NotToml) }
-{
-    match toml::table_from_slice(alloc, text) {
-        Ok(document) => Ok(document),
-        Err(error) => {
-            if error.is_memory() {
-                return Err(CostFault::NoMemory);
-            }
-            Err(CostFault::NotToml)
-        }
-    }
-}
 
 // What a key of a table holds.
 fn value_at<'a>(table: &'a Table, key: &str) -> Option<&'a Value>
@@ -34,7 +15,7 @@ fn value_at<'a>(table: &'a Table, key: &str) -> Option<&'a Value>
 }
 
 /// Whether the key `version` holds the whole number 1.
-pub(crate) fn has_version_one(document: &Table) -> bool
+pub fn has_version_one(document: &Table) -> bool
     ensures { result ≡ unwrap_or (option_map spec.is_one (spec.version (table_view document.now))) false }
 {
     match value_at(document, "version") {
@@ -43,6 +24,7 @@ pub(crate) fn has_version_one(document: &Table) -> bool
     }
 }
 
+// Whether a value is the whole number 1.
 fn is_one(value: &Value) -> bool
     ensures { result ≡ spec.is_one (view value.now) }
 {
@@ -50,14 +32,14 @@ fn is_one(value: &Value) -> bool
 }
 
 /// What the key `default` holds.
-pub(crate) fn default(document: &Table) -> Option<&Value>
+pub fn default(document: &Table) -> Option<&Value>
     ensures { option_map (λ v. view v.now) result ≡ spec.default (table_view document.now) }
 {
     value_at(document, "default")
 }
 
 /// The table `cost`, where there is one.
-pub(crate) fn cost_table(document: &Table) -> Option<&Table>
+pub fn cost_table(document: &Table) -> Option<&Table>
     ensures { option_map (λ t. table_view t.now) result ≡ option_and_then as_table (get_member (codes "cost") (table_view document.now)) }
 {
     match value_at(document, "cost") {
@@ -67,7 +49,7 @@ pub(crate) fn cost_table(document: &Table) -> Option<&Table>
 }
 
 /// The entry of this name in the table `cost`. Its name is a text.
-pub(crate) fn entry<'a>(document: &'a Table, name: &[u8]) -> Option<&'a Value>
+pub fn entry<'a>(document: &'a Table, name: &[u8]) -> Option<&'a Value>
     ensures text { OnSome result (IsUtf8 name.now) }
     ensures value { option_map (λ v. view v.now) result ≡ get_member name.now (spec.entries (table_view document.now)) }
 {
@@ -79,14 +61,25 @@ pub(crate) fn entry<'a>(document: &'a Table, name: &[u8]) -> Option<&'a Value>
 }
 
 /// The cost that a value is, where it is a whole number from 0 to 4,294,967,295.
-pub(crate) fn cost_in(value: &Value) -> Option<u32>
+pub fn cost_in(value: &Value) -> Option<u32>
     ensures { result ≡ spec.cost_in (view value.now) }
 {
     u32::try_from(value.as_integer()?).ok()
 }
 
+/// The cost of the block of this name, where the table gives one: its entry, or else `default`.
+pub fn given(document: &Table, name: &[u8]) -> Option<u32>
+    ensures { result ≡ spec.given (table_view document.now) name.now }
+{
+    let value = match entry(document, name) {
+        Some(value) => value,
+        None => default(document)?,
+    };
+    cost_in(value)
+}
+
 /// Whether a key at the top is none of the three, or is `cost` and holds no table.
-pub(crate) fn is_stray(key: &str, value: &Value) -> bool
+pub fn is_stray(key: &str, value: &Value) -> bool
     ensures { result ≡ spec.is_stray key.now (view value.now) }
 {
     match key {

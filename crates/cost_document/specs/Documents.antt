@@ -1,6 +1,7 @@
 -- The document that a table's bytes spell, and what its keys hold. What TOML is, `toml` says. The three keys are this project's own.
 use Rattle.std.specs.Prelude.{◌==◌, ◌||◌, codes, ℕ, pos, List, Bool, false, not, if◌then◌else◌, Option, Some, None, is_none, option_and_then, unwrap_or}
 use Rattle.std.specs.Bool.{nat_le}
+use Rattle.std.specs.Option.{option_or}
 use Rattle.std.specs.Ordering.{nat_cmp, is_gt}
 use Rattle.std.specs.Cmp.Lexicographic.{slice_cmp}
 use Rattle.std.specs.Str.{is_utf8, bytes_eq}
@@ -40,6 +41,12 @@ is_one _ = false
 abbrev pub cost_in : Data → Option ℕ
 cost_in (integer (pos n)) = if nat_le n 4294967295 then Some n else None
 cost_in _ = None
+
+-- ---- the cost of a name
+
+-- its entry, or else `default`, where that is a whole number in range
+abbrev pub given : Members → List ℕ → Option ℕ
+given ms name = option_and_then cost_in (option_or (get_member name (entries ms)) (default ms))
 
 -- ---- the first in byte order
 

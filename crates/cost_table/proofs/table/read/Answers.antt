@@ -1,7 +1,7 @@
 use Rattle.std.proofs.lemmas.Bool.{true≢false}
 use Rattle.std.proofs.Common.{sym, ◌∙◌}
-use Rattle.cost_table.proofs.Reading.{document_read, document_refused}
-use Rattle.cost_table.proofs.document.read.Goals as goal
+use Rattle.cost_document.proofs.Reading.{document_read, document_refused}
+use Rattle.cost_table.proofs.table.read.Goals as goal
 
 pub returns-in-Ok-clause-document : goal.returns-in-Ok-clause-document
 returns-in-Ok-clause-document c = document_read _ _ c.in-Ok.ensures.ok.0 c.in-Ok.ensures.ok.1

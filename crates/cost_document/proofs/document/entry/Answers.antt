@@ -1,9 +1,9 @@
 use Rattle.std.proofs.Common.{◌≡◌, unwrap_or, ap, sym}
 use Rattle.toml.specs.Data.{no_members}
 use Rattle.toml.specs.View.{table_view}
-use Rattle.cost_table.specs.Documents.{entries}
-use Rattle.cost_table.proofs.Reading.{no_text_no_key}
-use Rattle.cost_table.proofs.document.entry.Goals as goal
+use Rattle.cost_document.specs.Documents.{entries}
+use Rattle.cost_document.proofs.Reading.{no_text_no_key}
+use Rattle.cost_document.proofs.document.entry.Goals as goal
 
 pub returns-in-Err-clause-value : goal.returns-in-Err-clause-value
 returns-in-Err-clause-value c =
