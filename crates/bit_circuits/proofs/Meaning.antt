@@ -7,6 +7,7 @@ use Rattle.std.proofs.lemmas.Bool.{and_parts, and_from}
 use Rattle.std.proofs.lemmas.Bool.Decides.{Decides-by_and, Decides-not, Decides-eqb, Decides-at}
 use Rattle.std.proofs.lemmas.List.Folds.{list_all-append}
 use Rattle.cnf_form.specs.Truth.{literal_true, clause_true, Satisfies}
+use Rattle.c_tree.specs.declared.program.Input.{Input}
 use Rattle.bv_term.specs.declared.op.Op.{Op}
 use Rattle.bv_term.specs.Stores.{Terms, AreTerms as AreTermsOf, FitFrom, input_word, words_from, words, tv}
 use Rattle.bit_circuits.specs.declared.gate.Gate.{Gate}
@@ -167,9 +168,18 @@ module _ (inputs : List Bool) (ops : List Op) (conditions : List ℕ) (over : Fi
       λ all. (at_input zs, at_input-size zs fits, complete zs fits all, at_input-decoded zs fits),
       λ found. subst (λ ys. All (λ t. term_word ops t ys ≢ 0) conditions) found.3 (sound found.0 found.2))
 
+input_with : List ℤ → Input
+input_with zs = record { values = zs }
+
+values_of : Input → List ℤ
+values_of i = i.values
+
 pub clauses-are : (terms : Terms) (conditions : List ℕ) → AreTermsOf terms → IsFormulaOf terms conditions (VariablesOf terms) (ClausesOf terms conditions)
-unfolding tv term_word
+unfolding tv term_word input_with values_of
 clauses-are terms conditions fit = record {
   fits = λ values s. fit-inputs terms.inputs (decoded terms.inputs values) (clauses-fit terms.inputs terms.ops conditions fit values);
-  solved = λ i fits. clauses-solved terms.inputs terms.ops conditions fit i.values (inputs-fit terms.inputs i.values fits);
+  solved = λ i fits.
+    let both = clauses-solved terms.inputs terms.ops conditions fit i.values (inputs-fit terms.inputs i.values fits) in (
+      λ all. let found = both.0 all in (found.0, found.1, found.2, ap input_with found.3),
+      λ found. both.1 (found.0, found.1, found.2, ap values_of found.3));
 }

@@ -13,6 +13,9 @@ op_bits-requires-clause-wide c = λ t.
     let items = λ (w : Vec Literal Global). w.items in
     ap (λ ws. length (bits_at (map items ws) t)) c.as_slice.ensures.value ∙ length-bits_at (next_of c.loop-op.netlist) (map items c.loop-op.words.items) t c.loop-op.invariant.wide
 
+pub op_bits-requires-clause-over : goal.op_bits-requires-clause-over
+op_bits-requires-clause-over c = over-at c.args.inputs c.args.ops.now c.loop-op.op-index _ (are-over c.args.inputs 0 c.args.ops.now c.requires.over) (omega arith)
+
 pub loop-op-preserved : goal.loop-op-preserved
 loop-op-preserved c =
     let items = λ (w : Vec Literal Global). w.items in
