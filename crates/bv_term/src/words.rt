@@ -1,8 +1,8 @@
 //! The words of operators.
 
-ghost use Rattle.std.specs.Prelude.{◌≡◌, ◌<◌, ◌≤ℤ◌, ◌<ℤ◌, ℕ, pos, negsuc, length, slice_index, slice_index_or as get_or};
+ghost use Rattle.std.specs.Prelude.{◌≡◌, ◌<◌, ◌*◌, ◌/◌, ◌%◌, ◌^◌, ◌≤ℤ◌, ◌<ℤ◌, ℕ, pos, negsuc, length, slice_index, slice_index_or as get_or};
 ghost use Rattle.bv_term.specs.Stores.{FitsOp, input_word};
-ghost use Rattle.std.specs.Int.{cast_unsigned, w32};
+ghost use Rattle.std.specs.Int.{cast_signed, cast_unsigned, int_shr, w32};
 ghost use Rattle.bv_term.specs.Words as spec;
 
 use crate::op::Op;
@@ -45,6 +45,27 @@ pub(crate) fn signed_remainder(m: u32, n: u32) -> u32
             .wrapping_rem(n.cast_signed())
             .cast_unsigned()
     }
+}
+
+/// The word shifted to the left; the count is taken modulo 32.
+pub(crate) fn shifted_up(m: u32, n: u32) -> u32
+    ensures { result ≡ (m * 2 ^ (n % 32)) % 2 ^ 32 }
+{
+    m.wrapping_shl(n)
+}
+
+/// The word shifted to the right; the count is taken modulo 32.
+pub(crate) fn shifted_down(m: u32, n: u32) -> u32
+    ensures { result ≡ m / 2 ^ (n % 32) }
+{
+    m.wrapping_shr(n)
+}
+
+/// The signed word shifted to the right, with copies of its sign; the count is taken modulo 32.
+pub(crate) fn shifted_signed(m: u32, n: u32) -> u32
+    ensures { result ≡ cast_unsigned w32 (int_shr (cast_signed w32 m) (n % 32)) }
+{
+    m.cast_signed().wrapping_shr(n).cast_unsigned()
 }
 
 /// 1 or 0.
@@ -93,12 +114,9 @@ pub(crate) fn word_of(op: Op, input: &[i64], words: &[u32]) -> u32
         Op::RemU(a, b) => remainder(words[a as usize], words[b as usize]),
         Op::DivS(a, b) => signed_quotient(words[a as usize], words[b as usize]),
         Op::RemS(a, b) => signed_remainder(words[a as usize], words[b as usize]),
-        Op::Shl(a, b) => words[a as usize].wrapping_shl(words[b as usize]),
-        Op::ShrU(a, b) => words[a as usize].wrapping_shr(words[b as usize]),
-        Op::ShrS(a, b) => words[a as usize]
-            .cast_signed()
-            .wrapping_shr(words[b as usize])
-            .cast_unsigned(),
+        Op::Shl(a, b) => shifted_up(words[a as usize], words[b as usize]),
+        Op::ShrU(a, b) => shifted_down(words[a as usize], words[b as usize]),
+        Op::ShrS(a, b) => shifted_signed(words[a as usize], words[b as usize]),
         Op::And(a, b) => words[a as usize] & words[b as usize],
         Op::Or(a, b) => words[a as usize] | words[b as usize],
         Op::Xor(a, b) => words[a as usize] ^ words[b as usize],

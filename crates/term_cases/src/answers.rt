@@ -1,11 +1,10 @@
 //! The answers to the cases.
 
-use crate::inputs::{declared, input_words};
-use crate::store::{over_words, put_each, words_without_inputs};
-use crate::wrong::Wrong;
+use crate::inputs::input_words;
 use bv_term::Terms;
 use case_lines::{is_heading, parts};
 use std::alloc::{AllocError, Global};
+use term_lines::{Wrong, declared, over_words, put_each, words_without_inputs};
 
 /// What is written for a line: a heading as it is, and for a case its answer.
 pub(crate) fn told(alloc: Global, line: &str) -> Result<String, AllocError> {

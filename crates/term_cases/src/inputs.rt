@@ -1,22 +1,10 @@
-//! Stores with inputs.
+//! The words of inputs.
 
-use crate::wrong::Wrong;
 use bv_term::{Op, Terms};
 use c_tree::Input;
 use sqlite_items::Items;
 use std::alloc::Global;
-
-/// Declares an input for each word of a text, `signed` or not, and gives their numbers.
-pub(crate) fn declared(alloc: Global, terms: &mut Terms, kinds: &str) -> Result<Vec<u32>, Wrong> {
-    let mut found = Vec::new(alloc);
-    for kind in kinds.split_ascii_whitespace() {
-        if terms.inputs().len() >= 64 {
-            return Err(Wrong::NoCase);
-        }
-        found.push(terms.declare(kind == "signed")?)?;
-    }
-    Ok(found)
-}
+use term_lines::Wrong;
 
 /// The words of a signed and of an unsigned input.
 pub(crate) fn input_words(alloc: Global, signed: i32, unsigned: u32) -> Result<Vec<u32>, Wrong> {

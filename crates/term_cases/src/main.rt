@@ -10,10 +10,6 @@
 
 mod answers;
 mod inputs;
-mod numbers;
-mod op;
-mod store;
-mod wrong;
 
 use std::io;
 

@@ -5,7 +5,7 @@ use std::alloc::{AllocError, AllocFailed, Global};
 
 /// Why a case has no answer of its own.
 #[derive(Clone, Copy, Debug)]
-pub(crate) enum Wrong {
+pub enum Wrong {
     /// Want of memory.
     NoMemory,
     /// The line is none of the cases.
@@ -14,7 +14,7 @@ pub(crate) enum Wrong {
 
 impl Wrong {
     /// The answer that says so.
-    pub(crate) fn told(self, alloc: Global) -> Result<String, AllocError> {
+    pub fn told(self, alloc: Global) -> Result<String, AllocError> {
         match self {
             Wrong::NoMemory => format!(in alloc; "no memory"),
             Wrong::NoCase => format!(in alloc; "no case"),

@@ -6,7 +6,7 @@ ghost use Rattle.bv_term.specs.Stores.{FitsOp};
 use bv_term::Op;
 
 /// The operator of this name over these terms, or over the word of a `const`, in a store of `len` terms.
-pub(crate) fn op_of(name: &str, operands: &[u32], len: u32) -> Option<Op>
+pub fn op_of(name: &str, operands: &[u32], len: u32) -> Option<Op>
     ensures { IfSome result (λ op. (inputs : ℕ) → FitsOp inputs len op) }
 {
     match operands {

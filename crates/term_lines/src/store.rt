@@ -11,6 +11,18 @@ use c_tree::Input;
 use sqlite_items::Items;
 use std::alloc::Global;
 
+/// Declares an input for each word of a text, `signed` or not, and gives their numbers.
+pub fn declared(alloc: Global, terms: &mut Terms, kinds: &str) -> Result<Vec<u32>, Wrong> {
+    let mut found = Vec::new(alloc);
+    for kind in kinds.split_ascii_whitespace() {
+        if terms.inputs().len() >= 64 {
+            return Err(Wrong::NoCase);
+        }
+        found.push(terms.declare(kind == "signed")?)?;
+    }
+    Ok(found)
+}
+
 // Puts an operator into a store that is not full.
 fn put(terms: &mut Terms, op: Op) -> Result<u32, Wrong>
     requires { FitsOp (length terms.old.inputs) (length terms.old.ops) op }
@@ -21,11 +33,20 @@ fn put(terms: &mut Terms, op: Op) -> Result<u32, Wrong>
     Ok(terms.put(op)?)
 }
 
-// Puts the operator of this name over these operands.
-fn put_named(terms: &mut Terms, name: &str, operands: &[u32]) -> Result<u32, Wrong> {
+/// Puts the operator of this name over these operands, or the input of this number.
+pub fn put_named(terms: &mut Terms, name: &str, operands: &[u32]) -> Result<u32, Wrong> {
     match op_of(name, operands, terms.len()) {
         Some(op) => put(terms, op),
-        None => Err(Wrong::NoCase),
+        None => put_input(terms, name, operands),
+    }
+}
+
+fn put_input(terms: &mut Terms, name: &str, operands: &[u32]) -> Result<u32, Wrong> {
+    match operands {
+        [input] if name == "input" && (*input as usize) < terms.inputs().len() => {
+            put(terms, Op::Input(*input))
+        }
+        _ => Err(Wrong::NoCase),
     }
 }
 
@@ -37,7 +58,7 @@ fn put_term(alloc: Global, terms: &mut Terms, text: &str) -> Result<u32, Wrong> 
 }
 
 /// Puts the terms of a text with `; ` between them, and gives their numbers.
-pub(crate) fn put_each(alloc: Global, terms: &mut Terms, text: &str) -> Result<Vec<u32>, Wrong> {
+pub fn put_each(alloc: Global, terms: &mut Terms, text: &str) -> Result<Vec<u32>, Wrong> {
     let mut found = Vec::new(alloc);
     for part in text.split("; ") {
         found.push(put_term(alloc, terms, part)?)?;
@@ -62,7 +83,7 @@ fn over_list(alloc: Global, terms: &mut Terms, name: &str, text: &str) -> Result
 }
 
 /// Puts the operator of this name over each list of words, with `; ` between the lists, and gives the numbers.
-pub(crate) fn over_words(
+pub fn over_words(
     alloc: Global,
     terms: &mut Terms,
     name: &str,
@@ -76,7 +97,7 @@ pub(crate) fn over_words(
 }
 
 /// The words of the terms of a store without inputs.
-pub(crate) fn words_without_inputs(alloc: Global, terms: &Terms) -> Result<Vec<u32>, Wrong> {
+pub fn words_without_inputs(alloc: Global, terms: &Terms) -> Result<Vec<u32>, Wrong> {
     if !terms.inputs().is_empty() {
         return Err(Wrong::NoCase);
     }

@@ -1,0 +1,10 @@
+pub mod Tidy
+pub mod Gates
+pub mod Circuits
+pub mod Words
+pub mod Formula
+pub mod Fitting
+pub mod Runs
+pub mod Pairs
+pub mod Moves
+pub mod Binaries
