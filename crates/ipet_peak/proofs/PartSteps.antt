@@ -82,11 +82,6 @@ some_at [] g lt h = omega (arith, lt)
 some_at (x ∷ xs) zero lt h = absurd (cc)
 some_at (x ∷ xs) (suc g) lt h = some_at xs g (omega (arith, lt)) h
 
-pub none_at : {A : Type 0} (xs : List A) (g : ℕ) → length xs ≤ g → slice_get xs g ≡ None
-none_at [] g le = refl
-none_at (x ∷ xs) zero le = absurd (omega (arith, le))
-none_at (x ∷ xs) (suc g) le = none_at xs g (omega (arith, le))
-
 pub parts_length : (t : Costs) (qs : List Part) (fs : List Func) → length (parts t qs fs) ≡ length qs + length fs
 parts_length t qs [] = omega arith
 parts_length t qs (f ∷ fs) =

@@ -6,7 +6,7 @@ ghost use Rattle.c_tree.specs.Blocks.{is_simple, blocks, list_blocks};
 ghost use Rattle.c_tree.specs.Statements.{held};
 ghost use Rattle.peak_laws.specs.Parts as spec;
 ghost use Rattle.peak_laws.specs.ProgramParts as program;
-ghost use Rattle.ipet_peak.specs.Pieces.{stack_after_piece, stack_after, Adds, parts_above, costs_after};
+ghost use Rattle.ipet_peak.specs.Pieces.{stack_after_piece, stack_after, Adds, parts_above, costs_after, parts_made, MakeOneEach};
 
 use c_semantics::is_simple;
 use c_tree::{Costs, Func, NoMemory, Stmt};
@@ -244,4 +244,34 @@ fn stmt_pieces(
             Ok(at)
         }
     }
+}
+
+// The pieces of one function.
+fn pieces_of(alloc: Global, scope: Scope, body: &[Stmt]) -> Result<Items<Piece>, NoMemory>
+    ensures { IfOk result (λ xs. (ps : List spec.Part) → stack_after (parts_above scope.entry.costs.now scope.entry.funcs.now) xs ps
+        ≡ program.list_part (parts_above scope.entry.costs.now scope.entry.funcs.now) (costs_after scope.entry.costs.now scope.entry.funcs.now) body.now 0 false ∷ ps) }
+{
+    let mut pieces = Items::new(alloc);
+    list_pieces(scope, body, 0, &mut pieces)?;
+    Ok(pieces)
+}
+
+/// The pieces of each function, in order.
+pub(crate) fn function_pieces(
+    alloc: Global,
+    funcs: &[Func],
+    costs: &Costs,
+) -> Result<Items<Items<Piece>>, NoMemory>
+    ensures parts { IfOk result (λ xss. parts_made xss ≡ parts_above costs.now funcs.now) }
+    ensures one { IfOk result (λ xss. MakeOneEach [] xss) }
+{
+    let mut all = Items::new(alloc);
+    for func in 0..funcs.len() {
+        let scope = Scope {
+            funcs: &funcs[..func],
+            costs,
+        };
+        all.push(pieces_of(alloc, scope, funcs[func].body.as_slice())?)?;
+    }
+    Ok(all)
 }
