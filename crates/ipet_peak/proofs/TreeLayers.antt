@@ -130,25 +130,19 @@ keeps_at x a is = subst KeepsWays (sym is)
 
 -- ---- trees that are made
 
-pub tree-Nothing : (t : Tree) → t ≡ tree.Nothing → IsTreeOf t Nothing
-tree-Nothing t is = subst (λ z. IsTreeOf z Nothing) (sym is) made
-  where
-    kept : KeepsWays tree.Nothing
-    unfolding KeepsWays
-    kept = tt
+nothing_made : KeepsWays tree.Nothing
+unfolding KeepsWays
+nothing_made = tt
 
-    made : IsTreeOf tree.Nothing Nothing
-    made = record { part = part-Nothing; keeps = kept }
+block_made : (c : ℕ) (l : Leaving) → KeepsWays (tree.Block c l)
+unfolding KeepsWays
+block_made c l = tt
+
+pub tree-Nothing : (t : Tree) → t ≡ tree.Nothing → IsTreeOf t Nothing
+tree-Nothing t is = subst (λ z. IsTreeOf z Nothing) (sym is) (record { part = part-Nothing; keeps = nothing_made })
 
 pub tree-Block : (t : Tree) (c : ℕ) (l : Leaving) → t ≡ tree.Block c l → IsTreeOf t (Block c l)
-tree-Block t c l is = subst (λ z. IsTreeOf z (Block c l)) (sym is) made
-  where
-    kept : KeepsWays (tree.Block c l)
-    unfolding KeepsWays
-    kept = tt
-
-    made : IsTreeOf (tree.Block c l) (Block c l)
-    made = record { part = part-Block c l; keeps = kept }
+tree-Block t c l is = subst (λ z. IsTreeOf z (Block c l)) (sym is) (record { part = part-Block c l; keeps = block_made c l })
 
 then_made : (ways : Ways) (a b : Tree) → ways ≡ dearest_ways (Then (part_of a) (part_of b)) → KeepsWays a → KeepsWays b → KeepsWays (tree.Then ways a b)
 unfolding part_of row_part_of KeepsWays RowKeepsWays shape-the_row-Tree-0 hidden-the_row-Tree-0 hidden

@@ -1,12 +1,14 @@
 -- A part as a list of its pieces, a piece before those of the parts that it holds. This project's own.
-use Rattle.std.specs.Prelude.{◌≡◌, ℕ, ◌+◌, List, [], ◌∷◌, ◌++◌, length, slice_get, unwrap_or}
+use Rattle.std.specs.Prelude.{◌≡◌, false, ℕ, ◌+◌, List, [], ◌∷◌, ◌++◌, length, slice_get, unwrap_or}
 use Rattle.c_tree.specs.declared.program.Costs.{Costs}
 use Rattle.c_tree.specs.declared.program.Func.{Func}
+use Rattle.c_tree.specs.declared.tree.Stmt.{Stmt}
+use Rattle.c_tree.specs.Blocks.{is_simple, blocks}
 use Rattle.ipet_peak.specs.declared.pieces.Piece.{Piece}
 use Rattle.ipet_peak.specs.declared.pieces.Piece.TheVariants as piece
 use Rattle.peak_laws.specs.Parts.{Part, Nothing, Block, Choice, While, Do, Body}
 use Rattle.peak_laws.specs.Magnitudes.{cap_cost}
-use Rattle.peak_laws.specs.ProgramParts.{sequence, costs_in, parts}
+use Rattle.peak_laws.specs.ProgramParts.{sequence, part, costs_in, parts}
 
 -- of a stack of parts the one that was made last
 abbrev pub last_part : List Part → Part
@@ -60,6 +62,16 @@ stack_cost (p ∷ ps) = cap_cost p + stack_cost ps
 -- the pieces that are new make this part
 abbrev pub Adds : List Part → List Piece → List Piece → Part → Type 0
 Adds qs old new p = (ps : List Part) → stack_after qs new ps ≡ stack_after qs old (p ∷ ps)
+
+-- the pieces that are new make this part, before the part that is made next
+abbrev pub Leads : List Part → List Piece → List Piece → Part → Type 0
+Leads qs old new q = (p : Part) (ps : List Part) → stack_after qs new (p ∷ ps) ≡ stack_after qs old (sequence q p ∷ ps)
+
+-- a statement without a block and without a node: a group of such statements
+pub record IsVoid (s : Stmt) : Type 0 where
+  pub compound : is_simple s ≡ false
+  pub no_block : blocks s false ≡ 0
+  pub no_node : (qs : List Part) (cost : ℕ → ℕ) (b : ℕ) → part qs cost s b ≡ Nothing
 
 -- the parts of these functions, and the costs of the blocks of the one after them
 abbrev pub parts_above : Costs → List Func → List Part
