@@ -160,6 +160,11 @@ one_before qs xss zero h = tt
 one_before qs [] (suc i) h = tt
 one_before qs (xs ∷ xss) (suc i) h = (h.0, one_before (qs ++ last_part (stack_after qs xs []) ∷ []) xss i h.1)
 
+pub above_length : (xss : List (List Piece)) (i : ℕ) → i < length xss → length (take i xss) ≡ i
+above_length [] i lt = absurd (omega (arith, lt))
+above_length (xs ∷ xss) zero lt = refl
+above_length (xs ∷ xss) (suc i) lt = ap suc (above_length xss i (omega (arith, lt)))
+
 pub one_above : (xss above : List (List Piece)) (i : ℕ) → above ≡ take i xss → MakeOneEach [] xss → MakeOneEach [] above
 one_above xss above i is h = subst (MakeOneEach []) (sym is) (one_before [] xss i h)
 

@@ -121,8 +121,8 @@ record VoidList (xs : List Stmt) : Type 0 where
 void_list : (xs : List Stmt) → All IsVoid xs → VoidList xs
 void_list [] h = record { no_block = refl; no_node = λ qs cost b. refl }
 void_list (x ∷ xs) h =
-    let v = All-head x xs h in
-    let rest = void_list xs (All-tail x xs h) in
+    let v = All-head IsVoid x xs h in
+    let rest = void_list xs (All-tail IsVoid x xs h) in
     let tail = ap (λ c. list_blocks xs c) v.compound in
     record {
       no_block = omega (arith, v.no_block, rest.no_block, tail);

@@ -19,12 +19,13 @@ use Rattle.ipet_peak.proofs.PlanRoom.{HasRoom, plan_room, if_all}
 use Rattle.ipet_peak.proofs.TreeLayers.{keeps_at}
 use Rattle.ipet_peak.proofs.computing.peak.Goals as goal
 
-pub program_tree-tree-requires : goal.program_tree-tree-requires
-program_tree-tree-requires c =
+pub program_tree-requires : goal.program_tree-requires
+program_tree-requires c =
     let n = c.args.plan.now in
     let small = subst AreSmall c.costs.ensures.value c.costs_are_small.ensures in
     let room = plan_room n.program n.costs c.program.ensures.formed small c.program.ensures.allowed in
-    omega (arith, room.light, λ i. cap_cost (program_part (c.program.ensures.value i) (c.costs-2.ensures.value i)))
+    let same : cap_cost (program_part c.program.result.now c.costs-2.result.now) ≡ cap_cost (program_part n.program n.costs) = λ i. cap_cost (program_part (c.program.ensures.value i) (c.costs-2.ensures.value i)) in
+    omega (arith, room.light, same)
 
 pub peak_of_tree-requires : goal.peak_of_tree-requires
 peak_of_tree-requires c =

@@ -18,7 +18,7 @@ push_flows-requires t c =
     let fit : FitsCaps (part_of p) (counts.whole k) = subst (λ y. FitsCaps (part_of y) (counts.whole k)) (sym c.get-in-Then-2.ensures) (fit_then _ _ _ _ _ c.in-Then.is c.requires.fit).0 in
     let same = ap counts.whole c.then_shares-shares.ensures.first ∙ then_whole (spec.dearest_ways (part_of c.get.result.now)) (spec.dearest_ways (part_of c.get-in-Then.result.now)) k in
     let s = keeps_then _ _ _ _ c.in-Then.is c.requires.keeps in
-    (search (rules, the_lemmas), (keeps_at _ _ c.get-in-Then-2.ensures s.first, omega (arith, light, ap (λ y. cap_cost (part_of y)) c.get-in-Then-2.ensures), fit_less (part_of p) _ (counts.whole k) (omega (arith, same)) fit))
+    (search (rules, the_lemmas), (keeps_at _ _ c.get-in-Then-2.ensures s.first, (omega (arith, light, ap (λ y. cap_cost (part_of y)) c.get-in-Then-2.ensures), fit_less (part_of p) _ (counts.whole k) (omega (arith, same)) fit)))
 
 pub push_flows-requires-in-Then : goal.push_flows-requires-in-Then
 push_flows-requires-in-Then t c =
@@ -28,7 +28,7 @@ push_flows-requires-in-Then t c =
     let fit : FitsCaps (part_of q) (counts.whole k) = subst (λ y. FitsCaps (part_of y) (counts.whole k)) (sym c.get-in-Then-3.ensures) (fit_then _ _ _ _ _ c.in-Then.is c.requires.fit).1 in
     let most = then_most (spec.dearest_ways (part_of c.get.result.now)) (spec.dearest_ways (part_of c.get-in-Then.result.now)) k in
     let s = keeps_then _ _ _ _ c.in-Then.is c.requires.keeps in
-    (search (rules, the_lemmas), (keeps_at _ _ c.get-in-Then-3.ensures s.second, omega (arith, light, ap (λ y. cap_cost (part_of y)) c.get-in-Then-3.ensures), fit_less (part_of q) _ (counts.whole k) (omega (arith, most, ap counts.whole c.then_shares-shares.ensures.second)) fit))
+    (search (rules, the_lemmas), (keeps_at _ _ c.get-in-Then-3.ensures s.second, (omega (arith, light, ap (λ y. cap_cost (part_of y)) c.get-in-Then-3.ensures), fit_less (part_of q) _ (counts.whole k) (omega (arith, most, ap counts.whole c.then_shares-shares.ensures.second)) fit)))
 
 pub whole-requires : goal.whole-requires
 whole-requires t c =
@@ -46,7 +46,7 @@ push_flows-requires-in-Choice t c =
     let fit : FitsCaps (part_of p) (counts.whole k) = subst (λ y. FitsCaps (part_of y) (counts.whole k)) (sym c.get-in-Choice-3.ensures) (fit_choice _ _ _ _ _ _ c.in-Choice.is c.requires.fit).0 in
     let same = choice_whole (spec.dearest_ways (part_of c.get-in-Choice.result.now)) (spec.dearest_ways (part_of c.get-in-Choice-2.result.now)) k in
     let s = keeps_choice _ _ _ _ _ c.in-Choice.is c.requires.keeps in
-    (search (rules, the_lemmas), (keeps_at _ _ c.get-in-Choice-3.ensures s.first, omega (arith, light, ap (λ y. cap_cost (part_of y)) c.get-in-Choice-3.ensures), fit_less (part_of p) _ (counts.whole k) (omega (arith, same, ap counts.whole c.choice_shares-shares.ensures.first)) fit))
+    (search (rules, the_lemmas), (keeps_at _ _ c.get-in-Choice-3.ensures s.first, (omega (arith, light, ap (λ y. cap_cost (part_of y)) c.get-in-Choice-3.ensures), fit_less (part_of p) _ (counts.whole k) (omega (arith, same, ap counts.whole c.choice_shares-shares.ensures.first)) fit)))
 
 pub push_flows-requires-in-Choice-2 : goal.push_flows-requires-in-Choice-2
 push_flows-requires-in-Choice-2 t c =
@@ -56,7 +56,7 @@ push_flows-requires-in-Choice-2 t c =
     let fit : FitsCaps (part_of p) (counts.whole k) = subst (λ y. FitsCaps (part_of y) (counts.whole k)) (sym c.get-in-Choice-4.ensures) (fit_choice _ _ _ _ _ _ c.in-Choice.is c.requires.fit).1 in
     let same = choice_whole (spec.dearest_ways (part_of c.get-in-Choice.result.now)) (spec.dearest_ways (part_of c.get-in-Choice-2.result.now)) k in
     let s = keeps_choice _ _ _ _ _ c.in-Choice.is c.requires.keeps in
-    (search (rules, the_lemmas), (keeps_at _ _ c.get-in-Choice-4.ensures s.second, omega (arith, light, ap (λ y. cap_cost (part_of y)) c.get-in-Choice-4.ensures), fit_less (part_of p) _ (counts.whole k) (omega (arith, same, ap counts.whole c.choice_shares-shares.ensures.second)) fit))
+    (search (rules, the_lemmas), (keeps_at _ _ c.get-in-Choice-4.ensures s.second, (omega (arith, light, ap (λ y. cap_cost (part_of y)) c.get-in-Choice-4.ensures), fit_less (part_of p) _ (counts.whole k) (omega (arith, same, ap counts.whole c.choice_shares-shares.ensures.second)) fit)))
 
 pub push_flows-requires-in-While : goal.push_flows-requires-in-While
 push_flows-requires-in-While t c =
@@ -65,7 +65,7 @@ push_flows-requires-in-While t c =
     let k = counts.whole (amounts c.args.a) * (c.in-While.m + 1) in
     let fit : FitsCaps (part_of p) k = subst (λ y. FitsCaps (part_of y) k) (sym c.get-in-While-2.ensures) (fit_while _ _ _ _ _ _ _ c.in-While.is c.requires.fit) in
     let s = keeps_while _ _ _ _ _ _ c.in-While.is c.requires.keeps in
-    (search (rules, the_lemmas), (keeps_at _ _ c.get-in-While-2.ensures s.body, omega (arith, light, ap (λ y. cap_cost (part_of y)) c.get-in-While-2.ensures), fit_less (part_of p) _ k c.while_turns-turns.ensures.fits fit))
+    (search (rules, the_lemmas), (keeps_at _ _ c.get-in-While-2.ensures s.body, (omega (arith, light, ap (λ y. cap_cost (part_of y)) c.get-in-While-2.ensures), fit_less (part_of p) _ k c.while_turns-turns.ensures.fits fit)))
 
 pub do_turns-turns-requires-clause-fits : goal.do_turns-turns-requires-clause-fits
 do_turns-turns-requires-clause-fits t c = (fit_do _ _ _ _ _ _ c.in-Do.is c.requires.fit).entries
@@ -77,7 +77,7 @@ push_flows-requires-in-Do t c =
     let k = counts.whole (amounts c.args.a) * (c.in-Do.m + 1) in
     let fit : FitsCaps (part_of p) k = subst (λ y. FitsCaps (part_of y) k) (sym c.get-in-Do-2.ensures) (fit_do _ _ _ _ _ _ c.in-Do.is c.requires.fit) in
     let s = keeps_do _ _ _ _ _ c.in-Do.is c.requires.keeps in
-    (search (rules, the_lemmas), (keeps_at _ _ c.get-in-Do-2.ensures s.body, omega (arith, light, ap (λ y. cap_cost (part_of y)) c.get-in-Do-2.ensures), fit_less (part_of p) _ k c.do_turns-turns.ensures.fits fit))
+    (search (rules, the_lemmas), (keeps_at _ _ c.get-in-Do-2.ensures s.body, (omega (arith, light, ap (λ y. cap_cost (part_of y)) c.get-in-Do-2.ensures), fit_less (part_of p) _ k c.do_turns-turns.ensures.fits fit)))
 
 pub push_flows-requires-in-Body : goal.push_flows-requires-in-Body
 push_flows-requires-in-Body t c =
@@ -87,7 +87,7 @@ push_flows-requires-in-Body t c =
     let fit : FitsCaps (part_of p) k = subst (λ y. FitsCaps (part_of y) k) (sym c.get-in-Body.ensures) (fit_body _ _ _ _ c.in-Body.is c.requires.fit) in
     let same = ap counts.whole c.body_amounts.ensures ∙ body_whole c.dearest_ways.result c.args.a.next in
     let s = keeps_body _ _ _ c.in-Body.is c.requires.keeps in
-    (search (rules, the_lemmas), (keeps_at _ _ c.get-in-Body.ensures s.body, omega (arith, light, ap (λ y. cap_cost (part_of y)) c.get-in-Body.ensures), fit_less (part_of p) _ k (omega (arith, same)) fit))
+    (search (rules, the_lemmas), (keeps_at _ _ c.get-in-Body.ensures s.body, (omega (arith, light, ap (λ y. cap_cost (part_of y)) c.get-in-Body.ensures), fit_less (part_of p) _ k (omega (arith, same)) fit)))
 
 pub returns-in-Nothing : goal.returns-in-Nothing
 returns-in-Nothing t c = none_added _ _ (flows_nothing _ _ c.in-Nothing.is)

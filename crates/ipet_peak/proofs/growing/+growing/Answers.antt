@@ -1,5 +1,6 @@
 -- Each piece makes a tree of those before it, and all of them the function's.
-use Rattle.std.proofs.Common.{Some, arith, ◌^◌, take, [], ◌∷◌, ap, sym, ◌∙◌, subst, refl}
+use Rattle.std.proofs.lemmas.Grind.{common_steps}
+use Rattle.std.proofs.Common.{Some, rules, arith, ◌^◌, take, [], ◌∷◌, ap, sym, ◌∙◌, subst, refl}
 use Rattle.std.specs.Prelude.{IfOk}
 use Rattle.std.proofs.lemmas.Option.{slice_get-get_or}
 use Rattle.flow_graph.proofs.Laid.{if_ok}
@@ -7,7 +8,7 @@ use Rattle.flow_graph.proofs.Unfolded.{got_at}
 use Rattle.peak_laws.specs.Parts as spec
 use Rattle.ipet_peak.specs.Pieces.{part_at, stack_after, parts_made}
 use Rattle.ipet_peak.specs.Trees.{part_of, parts_of, IsTreeOf, EachKeepsWays}
-use Rattle.ipet_peak.proofs.Grown.{makes_of, last_room, Standing, grown_step, none_made, one_above, one_made, grown}
+use Rattle.ipet_peak.proofs.Grown.{makes_of, last_room, Standing, grown_step, none_made, above_length, one_above, one_made, grown}
 use Rattle.ipet_peak.proofs.growing.+growing.Goals as goal
 
 pub callee_tree-returns-else-callee-funcs : goal.callee_tree-returns-else-callee-funcs
@@ -19,27 +20,23 @@ func_tree-pieces-init t c =
     let qs = parts_made (take c.args.func c.args.funcs.now) in
     record { whole = ap (λ ts. stack_after qs c.as_slice-left.result.now (parts_of ts)) c.new-trees.ensures; kept = subst EachKeepsWays (sym c.new-trees.ensures) tt }
 
-pub func_tree-make-tree-requires-clause-one : goal.func_tree-make-tree-requires-clause-one
-func_tree-make-tree-requires-clause-one t c = one_above c.args.funcs.now _ c.args.func refl c.requires.one
-
-pub func_tree-make-tree-requires-clause-kept : goal.func_tree-make-tree-requires-clause-kept
-func_tree-make-tree-requires-clause-kept t c = c.pieces.invariant.kept
-
-pub func_tree-make-tree-requires-clause-room : goal.func_tree-make-tree-requires-clause-room
-func_tree-make-tree-requires-clause-room t c =
+pub func_tree-make-requires : goal.func_tree-make-requires
+func_tree-make-requires t c =
     let a = c.args in
+    let long = above_length a.funcs.now a.func c.requires.func in
     let got = got_at a.funcs.now a.func c.index-funcs-func.result c.requires.func c.index-funcs-func.is ∙ ap Some (sym c.as_slice-left.ensures) in
     let whole = c.pieces.invariant.whole ∙ one_made a.funcs.now a.func c.as_slice-left.result.now c.requires.one got in
-    last_room (parts_made (take a.func a.funcs.now)) c.pieces.left c.in-Some.rest.now c.in-Some.piece.now (parts_of c.pieces.trees) _ (2 ^ 126) c.in-Some.ensures.cases.0 whole c.requires.room
+    let room = last_room (parts_made (take a.func a.funcs.now)) c.pieces.left.now c.in-Some.rest.now c.in-Some.piece.now (parts_of c.pieces.trees) _ (2 ^ 126) c.in-Some.ensures.cases.0 whole c.requires.room in
+    (first_of (omega (arith, long), omega (arith, long, c.decreases), search rules, grind (arith, common_steps)), (one_above a.funcs.now _ a.func refl c.requires.one, (c.pieces.invariant.kept, room)))
 
 pub func_tree-pieces-preserved : goal.func_tree-pieces-preserved
 func_tree-pieces-preserved t c =
-    grown_step (parts_made (take c.args.func c.args.funcs.now)) c.pieces.left c.in-Some.rest.now c.in-Some.piece.now c.pieces.trees c.make-tree.new.trees c.push.new.self c.in_ok-tree.tree _ c.in-Some.ensures.cases.0 c.in_ok-tree.ensures c.in_ok-push.ensures.ok c.pieces.invariant
+    grown_step (parts_made (take c.args.func c.args.funcs.now)) c.pieces.left.now c.in-Some.rest.now c.in-Some.piece.now c.pieces.trees c.make.new.trees c.push.new.self c.in_ok-tree.tree _ c.in-Some.ensures.cases.0 c.in_ok-tree.ensures c.in_ok-push.ensures.ok c.pieces.invariant
 
 pub func_tree-returns : goal.func_tree-returns
 func_tree-returns t c =
     let a = c.args in
     let qs = parts_made (take a.func a.funcs.now) in
     let got = got_at a.funcs.now a.func c.index-funcs-func.result c.requires.func c.index-funcs-func.is ∙ ap Some (sym c.as_slice-left.ensures) in
-    let standing = subst (Standing qs c.pieces.left c.pieces.trees) (one_made a.funcs.now a.func c.as_slice-left.result.now c.requires.one got) c.pieces.invariant in
-    if_ok c.take_last.result _ _ (λ z is. grown qs c.pieces.left c.pieces.trees (part_at (parts_made a.funcs.now) a.func) z c.in_default.ensures.cases standing is) c.take_last.ensures.last
+    let standing = subst (Standing qs c.pieces.left.now c.pieces.trees) (one_made a.funcs.now a.func c.as_slice-left.result.now c.requires.one got) c.pieces.invariant in
+    if_ok c.take_last.result _ _ (λ z is. grown qs c.pieces.left.now c.pieces.trees (part_at (parts_made a.funcs.now) a.func) z c.in_default.ensures.cases standing is) c.take_last.ensures.last

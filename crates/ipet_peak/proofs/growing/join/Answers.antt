@@ -11,13 +11,13 @@ use Rattle.ipet_peak.proofs.growing.join.Goals as goal
 pub sequence-requires-clause-room : goal.sequence-requires-clause-room
 sequence-requires-clause-room c =
     let ps = parts_of c.args.trees.now in
-    let second = c.in_ok-second.ensures.last.part ∙ ap last_part c.take_last-first.ensures.before in
+    let second = c.in_ok-second.ensures.last.part ∙ ap last_part c.take_last.ensures.before in
     omega (arith, c.requires.room, join_room ps, ap cap_cost c.in_ok-first.ensures.last.part, ap cap_cost second)
 
 pub returns : goal.returns
 returns c =
     let ps = parts_of c.args.trees.now in
     let first = c.in_ok-first.ensures.last.part in
-    let second = c.in_ok-second.ensures.last.part ∙ ap last_part c.take_last-first.ensures.before in
-    let before = c.take_last-second.ensures.before ∙ ap earlier_parts c.take_last-first.ensures.before in
-    if_ok c.sequence.result _ _ (λ t is. makes_of t _ _ _ _ is before c.take_last-second.ensures.kept (λ i. sequence (first i) (second i) ∷ earlier_parts (earlier_parts ps))) c.sequence.ensures
+    let second = c.in_ok-second.ensures.last.part ∙ ap last_part c.take_last.ensures.before in
+    let before = c.take_last-2.ensures.before ∙ ap earlier_parts c.take_last.ensures.before in
+    if_ok c.sequence.result _ _ (λ t is. makes_of t _ _ _ _ is before c.take_last-2.ensures.kept (λ i. sequence (first i) (second i) ∷ earlier_parts (earlier_parts ps))) c.sequence.ensures

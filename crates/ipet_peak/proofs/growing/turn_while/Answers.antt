@@ -16,4 +16,4 @@ pub returns : goal.returns
 returns c =
     let ps = parts_of c.args.trees.now in
     let body = c.in_ok-body.ensures.last.part in
-    if_ok c.while_tree.result _ _ (λ t is. makes_of t _ _ _ _ is c.take_last-body.ensures.before c.take_last-body.ensures.kept (λ i. spec.While c.args.c c.args.m c.args.step (body i) ∷ earlier_parts ps)) c.while_tree.ensures
+    if_ok c.while_tree.result _ _ (λ t is. makes_of t _ _ _ _ is c.take_last.ensures.before c.take_last.ensures.kept (λ i. spec.While c.args.c c.args.m c.args.step (body i) ∷ earlier_parts ps)) c.while_tree.ensures
