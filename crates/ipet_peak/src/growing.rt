@@ -115,11 +115,7 @@ fn turn_do(
 
 // The body of a callee, if it is above.
 #[cycle(growing)]
-fn callee_tree(
-    alloc: Global,
-    funcs: &[Items<Piece>],
-    callee: u32,
-) -> Result<Boxed<Tree>, NoMemory>
+fn callee_tree(alloc: Global, funcs: &[Items<Piece>], callee: u32) -> Result<Boxed<Tree>, NoMemory>
     requires one { MakeOneEach [] funcs.now }
     requires room { cap_cost (part_at (parts_made funcs.now) callee) ≤ 2 ^ 126 }
     ensures { IfOk result (λ t. IsTreeOf t (part_at (parts_made funcs.now) callee)) }

@@ -79,12 +79,7 @@ fn put_pending(
 }
 
 // The same at the end of a list, which is one part.
-fn put_last(
-    scope: Scope,
-    run: bool,
-    at: usize,
-    out: &mut Items<Piece>,
-) -> Result<usize, NoMemory>
+fn put_last(scope: Scope, run: bool, at: usize, out: &mut Items<Piece>) -> Result<usize, NoMemory>
     ensures block { IfOk result (λ b. b ≡ program.block_past_run run at) }
     ensures pieces { IfOk result (λ b. (qs : List spec.Part)
         → Adds qs out.old out.new (program.pending_block run (costs_after scope.entry.costs.now scope.entry.funcs.now at))) }
