@@ -1,11 +1,12 @@
 -- One step along a list of statements whose pieces are added.
-use Rattle.std.proofs.Common.{◌≡◌, ◌≤◌, ◌<◌, ℕ, zero, suc, ◌+◌, ◌-◌, Bool, true, false, if◌then◌else◌, List, [], ◌∷◌, ◌++◌, drop, length, Option, Some, None, refl, sym, ap, ◌∙◌, subst, arith, length-append}
+use Rattle.std.proofs.Common.{◌≡◌, ◌≤◌, ◌<◌, ℕ, zero, suc, ◌+◌, ◌-◌, Bool, true, false, if◌then◌else◌, List, [], ◌∷◌, ◌++◌, take, drop, length, All, Option, Some, None, refl, sym, ap, ◌∙◌, subst, arith, length-append}
 use Rattle.std.specs.Prelude.{slice_get, unwrap_or}
-use Rattle.std.proofs.lemmas.List.{drop_all}
+use Rattle.std.proofs.lemmas.List.{drop_all, take_all}
+use Rattle.std.proofs.lemmas.List.Elements.{All-head, All-tail}
 use Rattle.c_tree.specs.declared.program.Costs.{Costs}
 use Rattle.c_tree.specs.declared.program.Func.{Func}
 use Rattle.c_tree.specs.declared.tree.Expr.{Expr}
-use Rattle.c_tree.specs.declared.tree.Stmt.TheVariants.{For}
+use Rattle.c_tree.specs.declared.tree.Stmt.TheVariants.{For, Group}
 use Rattle.c_tree.specs.Statements.{held}
 use Rattle.c_tree.specs.declared.tree.Stmt.{Stmt}
 use Rattle.c_tree.specs.Blocks.{is_simple, begun, blocks, list_blocks}
@@ -15,8 +16,9 @@ use Rattle.ipet_peak.specs.declared.pieces.Piece.TheVariants as piece
 use Rattle.peak_laws.specs.Parts.{Part, Nothing, Block, Then, Choice, While, Do, Body}
 use Rattle.peak_laws.specs.declared.ways.Leaving.TheVariants.{ByEnd}
 use Rattle.peak_laws.specs.ProgramParts.{sequence, pending_block, block_past_run, call_part, step_part, part, list_part, func_part, parts}
-use Rattle.ipet_peak.specs.Pieces.{stack_after_piece, stack_after, Adds}
-use Rattle.ipet_peak.proofs.PartLayers.{part-For}
+use Rattle.c_tree.proofs.ExecLayers.{blocks-Group}
+use Rattle.ipet_peak.specs.Pieces.{stack_after_piece, stack_after, Adds, Leads, IsVoid}
+use Rattle.ipet_peak.proofs.PartLayers.{part-For, part-Group}
 
 -- what is added up to a place of a list, and the rest from there on, make the part p
 pub record Stands (qs : List Part) (cost : ℕ → ℕ) (xs : List Stmt) (run : Bool) (b : ℕ) (out first : List Piece) (p : Part) (end : ℕ) : Type 0 where
@@ -45,10 +47,10 @@ simple_step qs cost xs rest x run b out first p end is simple h =
       makes = λ ps. ap (λ q. stack_after qs out (q ∷ ps)) (sym same) ∙ h.makes ps;
     }
 
-pub plain_step : (qs : List Part) (cost : ℕ → ℕ) (xs rest : List Stmt) (x : Stmt) (run : Bool) (b b1 b2 : ℕ) (out o1 o2 o3 o4 first : List Piece) (p : Part) (end : ℕ) → xs ≡ x ∷ rest → is_simple x ≡ false → b1 ≡ block_past_run run b → b2 ≡ b1 + blocks x false
-    → ((rs ps : List Part) → stack_after rs o1 ps ≡ stack_after rs out (stack_after_piece rs piece.Join ps)) → ((rs : List Part) → Adds rs o1 o2 (pending_block run (cost b))) → ((rs ps : List Part) → stack_after rs o3 ps ≡ stack_after rs o2 (stack_after_piece rs piece.Join ps)) → Adds qs o3 o4 (part qs cost x b1)
-    → Stands qs cost xs run b out first p end → Stands qs cost rest false b2 o4 first p end
-plain_step qs cost xs rest x run b b1 b2 out o1 o2 o3 o4 first p end is plain one two h1 h2 h3 h4 h =
+pub plain_step : (qs : List Part) (cost : ℕ → ℕ) (xs rest : List Stmt) (x : Stmt) (run : Bool) (b b1 b2 : ℕ) (out o1 o2 first : List Piece) (p : Part) (end : ℕ) → xs ≡ x ∷ rest → is_simple x ≡ false → b1 ≡ block_past_run run b → b2 ≡ b1 + blocks x false
+    → ((rs : List Part) → Leads rs out o1 (pending_block run (cost b))) → Leads qs o1 o2 (part qs cost x b1)
+    → Stands qs cost xs run b out first p end → Stands qs cost rest false b2 o2 first p end
+plain_step qs cost xs rest x run b b1 b2 out o1 o2 first p end is plain one two h1 h2 h =
     let numbers = ap (λ ys. block_past_run run b + list_blocks ys run) is in
     let count = plain_blocks x run plain in
     let tail = ap (λ c. list_blocks rest c) plain in
@@ -58,7 +60,7 @@ plain_step qs cost xs rest x run b b1 b2 out o1 o2 o3 o4 first p end is plain on
     let y = λ (n : ℕ). part qs cost x n in
     record {
       numbers = omega (arith, h.numbers, numbers, count, tail, at);
-      makes = λ ps. h4 (q b2 ∷ ps) ∙ h3 qs (y b1 ∷ (q b2 ∷ ps)) ∙ h2 qs (sequence (y b1) (q b2) ∷ ps) ∙ h1 qs (pending_block run (cost b) ∷ (sequence (y b1) (q b2) ∷ ps)) ∙ (λ i. stack_after qs out (sequence (pending_block run (cost b)) (sequence (y (one i)) (q (at i))) ∷ ps)) ∙ ap (λ z. stack_after qs out (z ∷ ps)) (sym same) ∙ h.makes ps;
+      makes = λ ps. h2 (q b2) ps ∙ h1 qs (sequence (y b1) (q b2)) ps ∙ (λ i. stack_after qs out (sequence (pending_block run (cost b)) (sequence (y (one i)) (q (at i))) ∷ ps)) ∙ ap (λ z. stack_after qs out (z ∷ ps)) (sym same) ∙ h.makes ps;
     }
 
 pub reread : (qs : List Part) (cost : ℕ → ℕ) (xs : List Stmt) (run run' : Bool) (b b' : ℕ) (out out' first : List Piece) (p : Part) (end : ℕ) → run ≡ run' → b ≡ b' → out ≡ out' → Stands qs cost xs run b out first p end → Stands qs cost xs run' b' out' first p end
@@ -81,11 +83,6 @@ pub some_at : {A : Type 0} (xs : List A) (g : ℕ) → g < length xs → slice_g
 some_at [] g lt h = omega (arith, lt)
 some_at (x ∷ xs) zero lt h = absurd (cc)
 some_at (x ∷ xs) (suc g) lt h = some_at xs g (omega (arith, lt)) h
-
-pub none_at : {A : Type 0} (xs : List A) (g : ℕ) → length xs ≤ g → slice_get xs g ≡ None
-none_at [] g le = refl
-none_at (x ∷ xs) zero le = absurd (omega (arith, le))
-none_at (x ∷ xs) (suc g) le = none_at xs g (omega (arith, le))
 
 pub parts_length : (t : Costs) (qs : List Part) (fs : List Func) → length (parts t qs fs) ≡ length qs + length fs
 parts_length t qs [] = omega arith
@@ -114,3 +111,32 @@ pub at_last : (qs : List Part) (cost : ℕ → ℕ) (xs : List Stmt) (i : ℕ) (
 at_last qs cost xs i run b out first p end le h =
     let none : drop i xs ≡ [] = drop_all i xs le in
     (omega (arith, h.numbers, ap (λ ys. list_blocks ys run) none), λ ps. ap (λ ys. stack_after qs out (list_part qs cost ys b run ∷ ps)) (sym none) ∙ h.makes ps)
+
+-- ---- statements without a node
+
+record VoidList (xs : List Stmt) : Type 0 where
+  no_block : list_blocks xs false ≡ 0
+  no_node : (qs : List Part) (cost : ℕ → ℕ) (b : ℕ) → list_part qs cost xs b false ≡ Nothing
+
+void_list : (xs : List Stmt) → All IsVoid xs → VoidList xs
+void_list [] h = record { no_block = refl; no_node = λ qs cost b. refl }
+void_list (x ∷ xs) h =
+    let v = All-head IsVoid x xs h in
+    let rest = void_list xs (All-tail IsVoid x xs h) in
+    let tail = ap (λ c. list_blocks xs c) v.compound in
+    record {
+      no_block = omega (arith, v.no_block, rest.no_block, tail);
+      no_node = λ qs cost b. simple_part qs cost x xs b false false v.compound ∙ (λ i. sequence Nothing (sequence (v.no_node qs cost b i) (rest.no_node qs cost (b + blocks x false) i)));
+    }
+
+group_simple : (xs : List Stmt) → is_simple (Group xs) ≡ false
+group_simple xs = refl
+
+pub void_group : (s : Stmt) (xs ys : List Stmt) (i : ℕ) → s ≡ Group xs → ys ≡ xs → length ys ≤ i → All IsVoid (take i ys) → IsVoid s
+void_group s xs ys i is same le h =
+    let v = void_list xs (subst (All IsVoid) (take_all i ys le ∙ same) h) in
+    subst IsVoid (sym is) (record {
+      compound = group_simple xs;
+      no_block = blocks-Group xs false ∙ v.no_block;
+      no_node = λ qs cost b. part-Group qs cost xs b ∙ v.no_node qs cost b;
+    })

@@ -11,7 +11,7 @@ use Rattle.flow_laws.specs.Paths.{cap_of}
 use Rattle.flow_graph.specs.Limits.{refusal}
 use Rattle.flow_graph.proofs.Tame.{AllWithin}
 use Rattle.flow_graph.proofs.Measured.{all_within, entered, limits}
-use Rattle.ipet_rows.specs.CapsBound.{caps_bound}
+use Rattle.ipet_rows.specs.CapsBound.{AreSmall}
 use Rattle.peak_laws.specs.Parts.{Part}
 use Rattle.peak_laws.specs.ProgramParts.{program_part}
 use Rattle.peak_laws.specs.Magnitudes.{cap_cost, loop_count, excess, EachIsAtMost, node_caps}
@@ -35,18 +35,18 @@ pub record HasRoom (q : Part) : Type 0 where
   pub room : excess q ≤ 2 ^ 124
   pub fit : FitsCaps q 1
 
-pub plan_room : (p : Program) (t : Costs) (q : Part) → WellFormed p → caps_bound t (graph p) ≤ 2 ^ 97 → refusal (graph p) ≡ None → q ≡ program_part p t → HasRoom q
-plan_room p t q formed caps allowed is =
+pub plan_room : (p : Program) (t : Costs) → WellFormed p → AreSmall t → refusal (graph p) ≡ None → HasRoom (program_part p t)
+plan_room p t formed costs allowed =
     let o = program_part p t in
     let g = graph p in
-    let small = is_small p t formed caps allowed in
+    let small = is_small p t formed costs allowed in
     let all : loop_count o * cap_cost o ≤ 2048 * 2 ^ 97 = omega (arith, mul-le-mul_left (loop_count o) small.cap_cost, small.loops) in
     let within = all_within p (entered p formed.entry) (limits g allowed).caps in
-    subst HasRoom (sym is) (record {
+    record {
       light = omega (arith, small.cap_cost);
       room = omega (arith, small.cap_cost, all, excess_most o (cap_cost o) (omega arith));
       fit = record { entries = omega arith; caps = each_within (λ v. cap_of (slice_get g v)) (2 ^ 40) 2 (node_caps o 1) (λ v. cap_within g v within) (program_shaped p t formed).caps_agree };
-    })
+    }
 
 pub if_all : {A E : Type 0} (r : Result A E) (P Q R S T : A → Type 0) → ((u : A) → P u → Q u → R u → S u → T u) → IfOk r P → IfOk r Q → IfOk r R → IfOk r S → IfOk r T
 if_all (Ok x) P Q R S T f a b c d = f x a b c d

@@ -1,9 +1,10 @@
 -- Numbers that are added to a list one after the other.
-use Rattle.std.proofs.Common.{◌≡◌, ℕ, ℤ, pos, List, [], ◌∷◌, ◌++◌, map, Option, None, refl, sym, ap, ◌∙◌, append_assoc, ◌≤◌, ◌+◌, Some, arith}
+use Rattle.std.proofs.Common.{◌≡◌, ℕ, ℤ, pos, List, [], ◌∷◌, ◌++◌, map, Option, None, refl, sym, ap, ◌∙◌, append_assoc, append-nil, ◌≤◌, ◌+◌, Some, arith}
 use Rattle.ipet_peak.specs.declared.tree.Tree.{Tree}
 use Rattle.ipet_peak.specs.declared.tree.Tree.TheVariants as tree
 use Rattle.peak_laws.specs.Parts.{Part, turn, dearest_ways, from_entry}
 use Rattle.peak_laws.specs.declared.ways.Leaving.{Leaving}
+use Rattle.peak_laws.specs.declared.ways.Ways.{Ways}
 use Rattle.ipet_peak.specs.Trees.{part_of, turns_of, cost_by_way, dearest_cost, greatest_target}
 use Rattle.flow_laws.specs.Sites.{Targets}
 use Rattle.peak_laws.proofs.Dearest.{UpTo, upper, lower}
@@ -15,12 +16,8 @@ map_append : (p q : List ℕ) → map pos (p ++ q) ≡ map pos p ++ map pos q
 map_append [] q = refl
 map_append (x ∷ p) q = ap (λ ys. pos x ∷ ys) (map_append p q)
 
-append_none : (xs : List ℤ) → xs ++ [] ≡ xs
-append_none [] = refl
-append_none (x ∷ xs) = ap (λ ys. x ∷ ys) (append_none xs)
-
 pub none_pushed : (old : List ℤ) (r : List ℕ) → r ≡ [] → old ≡ old ++ map pos r
-none_pushed old r is = sym (ap (λ y. old ++ map pos y) is ∙ append_none old)
+none_pushed old r is = sym (ap (λ y. old ++ map pos y) is ∙ append-nil old)
 
 pub two_pushed : (old x y : List ℤ) (p q r : List ℕ) → x ≡ old ++ map pos p → y ≡ x ++ map pos q → r ≡ p ++ q → y ≡ old ++ map pos r
 two_pushed old x y p q r one two is =
@@ -34,21 +31,21 @@ turns_nothing t is = ap (λ y. turns_of (part_of y)) is ∙ ap turns_of part-Not
 pub turns_block : (t : Tree) (c : ℕ) (l : Leaving) → t ≡ tree.Block c l → turns_of (part_of t) ≡ []
 turns_block t c l is = ap (λ y. turns_of (part_of y)) is ∙ ap turns_of (part-Block c l)
 
-pub turns_then : (t a b x y : Tree) → t ≡ tree.Then a b → x ≡ a → y ≡ b → turns_of (part_of t) ≡ turns_of (part_of x) ++ turns_of (part_of y)
-turns_then t a b x y is xa yb =
-    ap (λ z. turns_of (part_of z)) is ∙ ap turns_of (part-Then a b) ∙ sym (λ i. turns_of (part_of (xa i)) ++ turns_of (part_of (yb i)))
+pub turns_then : (ways : Ways) (t a b x y : Tree) → t ≡ tree.Then ways a b → x ≡ a → y ≡ b → turns_of (part_of t) ≡ turns_of (part_of x) ++ turns_of (part_of y)
+turns_then ways t a b x y is xa yb =
+    ap (λ z. turns_of (part_of z)) is ∙ ap turns_of (part-Then ways a b) ∙ sym (λ i. turns_of (part_of (xa i)) ++ turns_of (part_of (yb i)))
 
-pub turns_choice : (t a b x y : Tree) (c : ℕ) → t ≡ tree.Choice c a b → x ≡ a → y ≡ b → turns_of (part_of t) ≡ turns_of (part_of x) ++ turns_of (part_of y)
-turns_choice t a b x y c is xa yb =
-    ap (λ z. turns_of (part_of z)) is ∙ ap turns_of (part-Choice c a b) ∙ sym (λ i. turns_of (part_of (xa i)) ++ turns_of (part_of (yb i)))
+pub turns_choice : (ways : Ways) (t a b x y : Tree) (c : ℕ) → t ≡ tree.Choice ways c a b → x ≡ a → y ≡ b → turns_of (part_of t) ≡ turns_of (part_of x) ++ turns_of (part_of y)
+turns_choice ways t a b x y c is xa yb =
+    ap (λ z. turns_of (part_of z)) is ∙ ap turns_of (part-Choice ways c a b) ∙ sym (λ i. turns_of (part_of (xa i)) ++ turns_of (part_of (yb i)))
 
-pub turns_while : (t a x : Tree) (c m v : ℕ) (s : Option ℕ) → t ≡ tree.While c m s a → x ≡ a → v ≡ turn c s (dearest_ways (part_of a)) → turns_of (part_of t) ≡ v ∷ turns_of (part_of x)
-turns_while t a x c m v s is xa vy =
-    ap (λ z. turns_of (part_of z)) is ∙ ap turns_of (part-While c m s a) ∙ sym (λ i. vy i ∷ turns_of (part_of (xa i)))
+pub turns_while : (ways : Ways) (t a x : Tree) (c m v : ℕ) (s : Option ℕ) → t ≡ tree.While ways c m s a → x ≡ a → v ≡ turn c s (dearest_ways (part_of a)) → turns_of (part_of t) ≡ v ∷ turns_of (part_of x)
+turns_while ways t a x c m v s is xa vy =
+    ap (λ z. turns_of (part_of z)) is ∙ ap turns_of (part-While ways c m s a) ∙ sym (λ i. vy i ∷ turns_of (part_of (xa i)))
 
-pub turns_do : (t a x : Tree) (c m v : ℕ) → t ≡ tree.Do c m a → x ≡ a → v ≡ turn c None (dearest_ways (part_of a)) → turns_of (part_of t) ≡ turns_of (part_of x) ++ (v ∷ [])
-turns_do t a x c m v is xa vy =
-    ap (λ z. turns_of (part_of z)) is ∙ ap turns_of (part-Do c m a) ∙ sym (λ i. turns_of (part_of (xa i)) ++ (vy i ∷ []))
+pub turns_do : (ways : Ways) (t a x : Tree) (c m v : ℕ) → t ≡ tree.Do ways c m a → x ≡ a → v ≡ turn c None (dearest_ways (part_of a)) → turns_of (part_of t) ≡ turns_of (part_of x) ++ (v ∷ [])
+turns_do ways t a x c m v is xa vy =
+    ap (λ z. turns_of (part_of z)) is ∙ ap turns_of (part-Do ways c m a) ∙ sym (λ i. turns_of (part_of (xa i)) ++ (vy i ∷ []))
 
 -- ---- what a part costs from its entry on is its best way
 

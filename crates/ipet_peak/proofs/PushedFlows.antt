@@ -1,5 +1,5 @@
 -- Counts of a tree, one layer at a time, and the room that they need.
-use Rattle.std.proofs.Common.{◌≡◌, ◌≤◌, ℕ, ◌+◌, ◌*◌, ◌^◌, List, [], ◌∷◌, ◌++◌, Option, None, refl, sym, ap, ◌∙◌, subst, append_assoc, arith}
+use Rattle.std.proofs.Common.{◌≡◌, ◌≤◌, ℕ, ◌+◌, ◌*◌, ◌^◌, List, [], ◌∷◌, ◌++◌, Option, None, refl, sym, ap, ◌∙◌, subst, append_assoc, append-nil, arith}
 use Rattle.std.proofs.Math.Nat.{mul-le-mul_left}
 use Rattle.flow_laws.specs.Sites.{Targets}
 use Rattle.ipet_peak.specs.declared.tree.Tree.{Tree}
@@ -68,45 +68,41 @@ pub fit_less : (p : Part) (j k : ℕ) → j ≤ k → FitsCaps p k → FitsCaps 
 fit_less p j k le h =
     record { entries = omega (arith, le, h.entries); caps = every_each (2 ^ 40) (node_caps p j) (caps_fewer p j k (2 ^ 40) le (each_every (2 ^ 40) (node_caps p k) h.caps)) }
 
-pub fit_then : (t a b : Tree) (k : ℕ) → t ≡ tree.Then a b → FitsCaps (part_of t) k → FitsCaps (part_of a) k × FitsCaps (part_of b) k
-fit_then t a b k is h =
-    let g : FitsCaps (Then (part_of a) (part_of b)) k = subst (λ p. FitsCaps p k) (ap part_of is ∙ part-Then a b) h in
+pub fit_then : (ways : Ways) (t a b : Tree) (k : ℕ) → t ≡ tree.Then ways a b → FitsCaps (part_of t) k → FitsCaps (part_of a) k × FitsCaps (part_of b) k
+fit_then ways t a b k is h =
+    let g : FitsCaps (Then (part_of a) (part_of b)) k = subst (λ p. FitsCaps p k) (ap part_of is ∙ part-Then ways a b) h in
     let p = node_caps (part_of a) k in
     let q = node_caps (part_of b) k in
     (record { entries = g.entries; caps = left (2 ^ 40) p q g.caps }, record { entries = g.entries; caps = right (2 ^ 40) p q g.caps })
 
-pub fit_choice : (t a b : Tree) (c k : ℕ) → t ≡ tree.Choice c a b → FitsCaps (part_of t) k → FitsCaps (part_of a) k × FitsCaps (part_of b) k
-fit_choice t a b c k is h =
-    let g : FitsCaps (Choice c (part_of a) (part_of b)) k = subst (λ p. FitsCaps p k) (ap part_of is ∙ part-Choice c a b) h in
+pub fit_choice : (ways : Ways) (t a b : Tree) (c k : ℕ) → t ≡ tree.Choice ways c a b → FitsCaps (part_of t) k → FitsCaps (part_of a) k × FitsCaps (part_of b) k
+fit_choice ways t a b c k is h =
+    let g : FitsCaps (Choice c (part_of a) (part_of b)) k = subst (λ p. FitsCaps p k) (ap part_of is ∙ part-Choice ways c a b) h in
     let p = node_caps (part_of a) k in
     let q = node_caps (part_of b) k in
     (record { entries = g.entries; caps = left (2 ^ 40) p q g.caps.1 }, record { entries = g.entries; caps = right (2 ^ 40) p q g.caps.1 })
 
-pub fit_while : (t a : Tree) (c m : ℕ) (s : Option ℕ) (k : ℕ) → t ≡ tree.While c m s a → FitsCaps (part_of t) k → FitsCaps (part_of a) (k * (m + 1))
-fit_while t a c m s k is h =
-    let g : FitsCaps (While c m s (part_of a)) k = subst (λ p. FitsCaps p k) (ap part_of is ∙ part-While c m s a) h in
+pub fit_while : (ways : Ways) (t a : Tree) (c m : ℕ) (s : Option ℕ) (k : ℕ) → t ≡ tree.While ways c m s a → FitsCaps (part_of t) k → FitsCaps (part_of a) (k * (m + 1))
+fit_while ways t a c m s k is h =
+    let g : FitsCaps (While c m s (part_of a)) k = subst (λ p. FitsCaps p k) (ap part_of is ∙ part-While ways c m s a) h in
     record { entries = omega (arith, g.caps.0); caps = right (2 ^ 40) (step_caps s (k * (m + 1))) (node_caps (part_of a) (k * (m + 1))) g.caps.1 }
 
-pub fit_do : (t a : Tree) (c m k : ℕ) → t ≡ tree.Do c m a → FitsCaps (part_of t) k → FitsCaps (part_of a) (k * (m + 1))
-fit_do t a c m k is h =
-    let g : FitsCaps (Do c m (part_of a)) k = subst (λ p. FitsCaps p k) (ap part_of is ∙ part-Do c m a) h in
+pub fit_do : (ways : Ways) (t a : Tree) (c m k : ℕ) → t ≡ tree.Do ways c m a → FitsCaps (part_of t) k → FitsCaps (part_of a) (k * (m + 1))
+fit_do ways t a c m k is h =
+    let g : FitsCaps (Do c m (part_of a)) k = subst (λ p. FitsCaps p k) (ap part_of is ∙ part-Do ways c m a) h in
     let p = node_caps (part_of a) (k * (m + 1)) in
     let last : EachIsAtMost (2 ^ 40) ((k * (m + 1)) ∷ []) = right (2 ^ 40) p ((k * (m + 1)) ∷ []) g.caps in
     record { entries = last.0; caps = left (2 ^ 40) p ((k * (m + 1)) ∷ []) g.caps }
 
-pub fit_body : (t a : Tree) (k : ℕ) → t ≡ tree.Body a → FitsCaps (part_of t) k → FitsCaps (part_of a) k
-fit_body t a k is h =
-    let g : FitsCaps (Body (part_of a)) k = subst (λ p. FitsCaps p k) (ap part_of is ∙ part-Body a) h in
+pub fit_body : (ways : Ways) (t a : Tree) (k : ℕ) → t ≡ tree.Body ways a → FitsCaps (part_of t) k → FitsCaps (part_of a) k
+fit_body ways t a k is h =
+    let g : FitsCaps (Body (part_of a)) k = subst (λ p. FitsCaps p k) (ap part_of is ∙ part-Body ways a) h in
     record { entries = g.entries; caps = g.caps }
 
 -- ---- lists that are added one after the other
 
-append_none : (xs : List ℕ) → xs ++ [] ≡ xs
-append_none [] = refl
-append_none (x ∷ xs) = ap (λ ys. x ∷ ys) (append_none xs)
-
 pub none_added : (old r : List ℕ) → r ≡ [] → old ≡ old ++ r
-none_added old r is = sym (ap (λ y. old ++ y) is ∙ append_none old)
+none_added old r is = sym (ap (λ y. old ++ y) is ∙ append-nil old)
 
 pub two_added : (old x y p q r : List ℕ) → x ≡ old ++ p → y ≡ x ++ q → r ≡ p ++ q → y ≡ old ++ r
 two_added old x y p q r one two is = two ∙ ap (λ z. z ++ q) one ∙ append_assoc old p q ∙ ap (λ z. old ++ z) (sym is)
@@ -124,20 +120,20 @@ three_added old x y z p q r u one two three is =
 pub flows_nothing : (t : Tree) (a : Targets) → t ≡ tree.Nothing → flows (part_of t) a ≡ []
 flows_nothing t a is = ap (λ p. flows p a) (ap part_of is ∙ part-Nothing)
 
-pub flows_then : (t a b x y x' y' : Tree) (k u v : Targets) → t ≡ tree.Then a b → x ≡ a → y ≡ b → x' ≡ a → y' ≡ b → u ≡ then_first (dearest_ways (part_of x')) (dearest_ways (part_of y')) k → v ≡ then_second (dearest_ways (part_of x')) (dearest_ways (part_of y')) k → flows (part_of t) k ≡ flows (part_of x) u ++ flows (part_of y) v
-flows_then t a b x y x' y' k u v is xa yb xa' yb' uk vk =
-    ap (λ p. flows p k) (ap part_of is ∙ part-Then a b) ∙ sym (λ i. flows (part_of (xa i)) ((uk ∙ (λ j. then_first (dearest_ways (part_of (xa' j))) (dearest_ways (part_of (yb' j))) k)) i) ++ flows (part_of (yb i)) ((vk ∙ (λ j. then_second (dearest_ways (part_of (xa' j))) (dearest_ways (part_of (yb' j))) k)) i))
+pub flows_then : (ways : Ways) (t a b x y x' y' : Tree) (k u v : Targets) → t ≡ tree.Then ways a b → x ≡ a → y ≡ b → x' ≡ a → y' ≡ b → u ≡ then_first (dearest_ways (part_of x')) (dearest_ways (part_of y')) k → v ≡ then_second (dearest_ways (part_of x')) (dearest_ways (part_of y')) k → flows (part_of t) k ≡ flows (part_of x) u ++ flows (part_of y) v
+flows_then ways t a b x y x' y' k u v is xa yb xa' yb' uk vk =
+    ap (λ p. flows p k) (ap part_of is ∙ part-Then ways a b) ∙ sym (λ i. flows (part_of (xa i)) ((uk ∙ (λ j. then_first (dearest_ways (part_of (xa' j))) (dearest_ways (part_of (yb' j))) k)) i) ++ flows (part_of (yb i)) ((vk ∙ (λ j. then_second (dearest_ways (part_of (xa' j))) (dearest_ways (part_of (yb' j))) k)) i))
 
-pub flows_choice : (t a b x y x' y' : Tree) (c f s : ℕ) (k u v : Targets) → t ≡ tree.Choice c a b → x ≡ a → y ≡ b → x' ≡ a → y' ≡ b → u ≡ choice_first (dearest_ways (part_of x')) (dearest_ways (part_of y')) k → v ≡ choice_second (dearest_ways (part_of x')) (dearest_ways (part_of y')) k → f ≡ whole u → s ≡ whole v → flows (part_of t) k ≡ (f ∷ []) ++ ((s ∷ []) ++ (flows (part_of x) u ++ flows (part_of y) v))
-flows_choice t a b x y x' y' c f s k u v is xa yb xa' yb' uk vk fu sv =
+pub flows_choice : (ways : Ways) (t a b x y x' y' : Tree) (c f s : ℕ) (k u v : Targets) → t ≡ tree.Choice ways c a b → x ≡ a → y ≡ b → x' ≡ a → y' ≡ b → u ≡ choice_first (dearest_ways (part_of x')) (dearest_ways (part_of y')) k → v ≡ choice_second (dearest_ways (part_of x')) (dearest_ways (part_of y')) k → f ≡ whole u → s ≡ whole v → flows (part_of t) k ≡ (f ∷ []) ++ ((s ∷ []) ++ (flows (part_of x) u ++ flows (part_of y) v))
+flows_choice ways t a b x y x' y' c f s k u v is xa yb xa' yb' uk vk fu sv =
     let first = uk ∙ (λ j. choice_first (dearest_ways (part_of (xa' j))) (dearest_ways (part_of (yb' j))) k) in
     let second = vk ∙ (λ j. choice_second (dearest_ways (part_of (xa' j))) (dearest_ways (part_of (yb' j))) k) in
-    ap (λ p. flows p k) (ap part_of is ∙ part-Choice c a b) ∙ sym (λ i. (fu ∙ ap whole first) i ∷ ((sv ∙ ap whole second) i ∷ (flows (part_of (xa i)) (first i) ++ flows (part_of (yb i)) (second i))))
+    ap (λ p. flows p k) (ap part_of is ∙ part-Choice ways c a b) ∙ sym (λ i. (fu ∙ ap whole first) i ∷ ((sv ∙ ap whole second) i ∷ (flows (part_of (xa i)) (first i) ++ flows (part_of (yb i)) (second i))))
 
-pub flows_while : (t a x y : Tree) (c m f g h : ℕ) (s : Option ℕ) (k u : Targets) → t ≡ tree.While c m s a → x ≡ a → y ≡ a → flows (While c m s (part_of x)) k ≡ f ∷ (g ∷ (step_flows s h ++ flows (part_of x) u)) → flows (part_of t) k ≡ (f ∷ []) ++ ((g ∷ []) ++ (step_flows s h ++ flows (part_of y) u))
-flows_while t a x y c m f g h s k u is xa ya eq =
-    ap (λ p. flows p k) (ap part_of is ∙ part-While c m s a) ∙ sym (ap (λ z. flows (While c m s (part_of z)) k) xa) ∙ eq ∙ (λ i. f ∷ (g ∷ (step_flows s h ++ flows (part_of ((xa ∙ sym ya) i)) u)))
+pub flows_while : (ways : Ways) (t a x y : Tree) (c m f g h : ℕ) (s : Option ℕ) (k u : Targets) → t ≡ tree.While ways c m s a → x ≡ a → y ≡ a → flows (While c m s (part_of x)) k ≡ f ∷ (g ∷ (step_flows s h ++ flows (part_of x) u)) → flows (part_of t) k ≡ (f ∷ []) ++ ((g ∷ []) ++ (step_flows s h ++ flows (part_of y) u))
+flows_while ways t a x y c m f g h s k u is xa ya eq =
+    ap (λ p. flows p k) (ap part_of is ∙ part-While ways c m s a) ∙ sym (ap (λ z. flows (While c m s (part_of z)) k) xa) ∙ eq ∙ (λ i. f ∷ (g ∷ (step_flows s h ++ flows (part_of ((xa ∙ sym ya) i)) u)))
 
-pub flows_do : (t a x y : Tree) (c m f g : ℕ) (k u : Targets) → t ≡ tree.Do c m a → x ≡ a → y ≡ a → flows (Do c m (part_of x)) k ≡ flows (part_of x) u ++ (f ∷ (g ∷ [])) → flows (part_of t) k ≡ flows (part_of y) u ++ ((f ∷ []) ++ (g ∷ []))
-flows_do t a x y c m f g k u is xa ya eq =
-    ap (λ p. flows p k) (ap part_of is ∙ part-Do c m a) ∙ sym (ap (λ z. flows (Do c m (part_of z)) k) xa) ∙ eq ∙ (λ i. flows (part_of ((xa ∙ sym ya) i)) u ++ (f ∷ (g ∷ [])))
+pub flows_do : (ways : Ways) (t a x y : Tree) (c m f g : ℕ) (k u : Targets) → t ≡ tree.Do ways c m a → x ≡ a → y ≡ a → flows (Do c m (part_of x)) k ≡ flows (part_of x) u ++ (f ∷ (g ∷ [])) → flows (part_of t) k ≡ flows (part_of y) u ++ ((f ∷ []) ++ (g ∷ []))
+flows_do ways t a x y c m f g k u is xa ya eq =
+    ap (λ p. flows p k) (ap part_of is ∙ part-Do ways c m a) ∙ sym (ap (λ z. flows (Do c m (part_of z)) k) xa) ∙ eq ∙ (λ i. flows (part_of ((xa ∙ sym ya) i)) u ++ (f ∷ (g ∷ [])))

@@ -1,5 +1,5 @@
 -- The part that a tree of the code is. This project's own.
-use Rattle.std.specs.Prelude.{ℕ, ◌≤◌, ◌+◌, ◌^◌, max, List, [], ◌∷◌, ◌++◌, Option, Some, None}
+use Rattle.std.specs.Prelude.{◌≡◌, ℕ, ◌≤◌, ◌+◌, ◌^◌, max, List, [], ◌∷◌, ◌++◌, Option, Some, None}
 use Rattle.ipet_peak.specs.declared.tree.Tree.{Tree, Row_of-Tree, end_of-Tree, more_of-Tree}
 use Rattle.ipet_peak.specs.declared.tree.Tree.TheVariants as tree
 use Rattle.flow_laws.specs.Sites.{Targets}
@@ -13,15 +13,35 @@ unfoldable mutual
   pub part_of : Tree → Part
   part_of tree.Nothing = Nothing
   part_of (tree.Block c l) = Block c l
-  part_of (tree.Then' a x b y) = Then (row_part_of x) (row_part_of y)
-  part_of (tree.Choice' c a x b y) = Choice c (row_part_of x) (row_part_of y)
-  part_of (tree.While' c m s a x) = While c m s (row_part_of x)
-  part_of (tree.Do' c m a x) = Do c m (row_part_of x)
-  part_of (tree.Body' a x) = Body (row_part_of x)
+  part_of (tree.Then' w a x b y) = Then (row_part_of x) (row_part_of y)
+  part_of (tree.Choice' w c a x b y) = Choice c (row_part_of x) (row_part_of y)
+  part_of (tree.While' w c m s a x) = While c m s (row_part_of x)
+  part_of (tree.Do' w c m a x) = Do c m (row_part_of x)
+  part_of (tree.Body' w a x) = Body (row_part_of x)
 
   pub row_part_of : {m : _} → Row_of-Tree m → Part
   row_part_of end_of-Tree = Nothing
   row_part_of (more_of-Tree t rest) = part_of t
+
+-- the ways that a tree and the trees in it keep are the dearest ways of their parts
+unfoldable mutual
+  pub KeepsWays : Tree → Type 0
+  KeepsWays tree.Nothing = Unit {0}
+  KeepsWays (tree.Block c l) = Unit {0}
+  KeepsWays (tree.Then' w a x b y) = (w ≡ dearest_ways (Then (row_part_of x) (row_part_of y))) × (RowKeepsWays x × RowKeepsWays y)
+  KeepsWays (tree.Choice' w c a x b y) = (w ≡ dearest_ways (Choice c (row_part_of x) (row_part_of y))) × (RowKeepsWays x × RowKeepsWays y)
+  KeepsWays (tree.While' w c m s a x) = (w ≡ dearest_ways (While c m s (row_part_of x))) × RowKeepsWays x
+  KeepsWays (tree.Do' w c m a x) = (w ≡ dearest_ways (Do c m (row_part_of x))) × RowKeepsWays x
+  KeepsWays (tree.Body' w a x) = (w ≡ dearest_ways (Body (row_part_of x))) × RowKeepsWays x
+
+  pub RowKeepsWays : {m : _} → Row_of-Tree m → Type 0
+  RowKeepsWays end_of-Tree = Unit {0}
+  RowKeepsWays (more_of-Tree t rest) = KeepsWays t
+
+-- a tree of this part
+pub record IsTreeOf (t : Tree) (p : Part) : Type 0 where
+  pub part : part_of t ≡ p
+  pub keeps : KeepsWays t
 
 -- what the turns of each loop cost, by the loops' conditions
 abbrev pub turns_of : Part → List ℕ
@@ -72,3 +92,13 @@ stack_onto (t ∷ ts) ps = stack_onto ts (part_of t ∷ ps)
 
 abbrev pub parts_of : List Tree → List Part
 parts_of ts = stack_onto ts []
+
+abbrev pub EachKeepsWays : List Tree → Type 0
+EachKeepsWays [] = Unit {0}
+EachKeepsWays (t ∷ ts) = KeepsWays t × EachKeepsWays ts
+
+-- the tree that was made, and the trees that it leaves, are these parts
+pub record Makes (t : Tree) (left : List Tree) (ps : List Part) : Type 0 where
+  pub parts : part_of t ∷ parts_of left ≡ ps
+  pub made : KeepsWays t
+  pub others : EachKeepsWays left

@@ -4,7 +4,7 @@ ghost use Rattle.std.specs.Prelude.{◌≡◌, ◌≤◌, ◌^◌, pos, IfOk};
 ghost use Rattle.c_tree.specs.Claims.{Above};
 ghost use Rattle.peak_laws.specs.Answers.{peak_value, peak_counts, peak_multipliers};
 ghost use Rattle.peak_laws.specs.Magnitudes.{cap_cost, excess};
-ghost use Rattle.ipet_peak.specs.Trees.{part_of, FitsCaps};
+ghost use Rattle.ipet_peak.specs.Trees.{part_of, FitsCaps, KeepsWays};
 ghost use Rattle.peak_laws.specs.Peaks.{IsPeakOf};
 
 use crate::ahead::all_to;
@@ -15,9 +15,9 @@ use crate::tree::Tree;
 use crate::turns::push_turns;
 use c_tree::NoMemory;
 use flow_graph::Plan;
-use ipet_rows::caps_bound;
 use lin_rows::Multipliers;
 use peak_laws::Peak;
+use run_laws::costs_are_small;
 use sqlite_items::Items;
 use std::alloc::Global;
 
@@ -31,6 +31,7 @@ const ONCE: Amounts = Amounts {
 
 /// The value, the counts and the multipliers of a part that is entered once.
 pub(crate) fn peak_of_tree(alloc: Global, tree: &Tree) -> Result<Peak, NoMemory>
+    requires keeps { KeepsWays tree.now }
     requires light { cap_cost (part_of tree.now) ≤ 2 ^ 124 }
     requires room { excess (part_of tree.now) ≤ 2 ^ 124 }
     requires fit { FitsCaps (part_of tree.now) 1 }
@@ -62,8 +63,8 @@ pub fn peak(alloc: Global, plan: &Plan) -> Result<Peak, NoMemory>
     ensures peak { IfOk result (λ peak. IsPeakOf plan.now peak) }
     ensures above { IfOk result (λ peak. Above plan.now.program plan.now.costs peak.value) }
 {
-    // Its number is not used: its clauses say that the costs leave room for what follows.
-    let _bound = caps_bound(plan);
+    // It computes nothing: its clause says that the costs leave room for what follows.
+    costs_are_small(plan.costs());
     let tree = program_tree(alloc, plan.program(), plan.costs())?;
-    peak_of_tree(alloc, &tree)
+    peak_of_tree(alloc, tree.get())
 }

@@ -4,7 +4,7 @@ ghost use Rattle.std.specs.Prelude.{◌≡◌, ◌≤◌, ◌<◌, ◌+◌, ◌*
 ghost use Rattle.peak_laws.specs.Parts as spec;
 ghost use Rattle.peak_laws.specs.Flows as counts;
 ghost use Rattle.peak_laws.specs.Magnitudes.{cap_cost, WaysAreAtMost, node_caps};
-ghost use Rattle.ipet_peak.specs.Trees.{part_of, amounts, FitsCaps};
+ghost use Rattle.ipet_peak.specs.Trees.{part_of, amounts, FitsCaps, KeepsWays};
 
 use crate::tree::{Tree, dearest_ways, step_cost};
 use crate::ways::{back, both, greater, more, turn_cost};
@@ -118,6 +118,8 @@ fn then_first(v: Ways, w: Ways, next: u64, a: Amounts) -> Amounts
 
 // Of two parts, one after the other.
 fn then_shares(a: &Tree, b: &Tree, left: Amounts) -> Shares
+    requires a { KeepsWays a.now }
+    requires b { KeepsWays b.now }
     requires first { cap_cost (part_of a.now) ≤ 2 ^ 125 }
     requires second { cap_cost (part_of b.now) ≤ 2 ^ 125 }
     requires left { counts.whole (amounts left) ≤ 2 ^ 40 }
@@ -155,8 +157,8 @@ fn choice_second(v: Ways, w: Ways, a: Amounts) -> Amounts
 
 // Of a choice.
 fn choice_shares(a: &Tree, b: &Tree, left: Amounts) -> Shares
-    requires first { cap_cost (part_of a.now) ≤ 2 ^ 125 }
-    requires second { cap_cost (part_of b.now) ≤ 2 ^ 125 }
+    requires a { KeepsWays a.now }
+    requires b { KeepsWays b.now }
     ensures first { amounts result.first ≡ counts.choice_first (spec.dearest_ways (part_of a.now)) (spec.dearest_ways (part_of b.now)) (amounts left) }
     ensures second { amounts result.second ≡ counts.choice_second (spec.dearest_ways (part_of a.now)) (spec.dearest_ways (part_of b.now)) (amounts left) }
 {
@@ -182,6 +184,7 @@ fn loop_body_amounts(w: Ways, full: u64, out: u64, r: u64) -> Amounts
 
 // Of `while` and `for` with a bound of `m + 1`.
 fn while_turns(c: u64, m: u32, step: Option<u64>, body: &Tree, a: Amounts) -> Turns
+    requires keeps { KeepsWays body.now }
     requires light { cap_cost (spec.While c m step (part_of body.now)) ≤ 2 ^ 125 }
     requires fits { counts.whole (amounts a) * (m + 1) ≤ 2 ^ 40 }
     ensures counts { counts.flows (spec.While c m step (part_of body.now)) (amounts a)
@@ -208,6 +211,7 @@ fn while_turns(c: u64, m: u32, step: Option<u64>, body: &Tree, a: Amounts) -> Tu
 
 // Of `do`.
 fn do_turns(c: u64, m: u32, body: &Tree, a: Amounts) -> Turns
+    requires keeps { KeepsWays body.now }
     requires light { cap_cost (spec.Do c m (part_of body.now)) ≤ 2 ^ 125 }
     requires fits { counts.whole (amounts a) * (m + 1) ≤ 2 ^ 40 }
     ensures counts { counts.flows (spec.Do c m (part_of body.now)) (amounts a)
@@ -258,6 +262,7 @@ fn push_step(step: Option<u64>, full: u64, out: &mut Items<u64>) -> Result<(), N
 /// Adds the counts of the edges, by their sources, of a part that is left so often.
 #[tactic(auto, using(crate::proofs::TreeLayers::tree_layers))]
 pub(crate) fn push_flows(tree: &Tree, a: Amounts, out: &mut Items<u64>) -> Result<(), NoMemory>
+    requires keeps { KeepsWays tree.now }
     requires light { cap_cost (part_of tree.now) ≤ 2 ^ 125 }
     requires fit { FitsCaps (part_of tree.now) (counts.whole (amounts a)) }
     ensures { IfOk result (λ u. out.new ≡ out.old ++ counts.flows (part_of tree.now) (amounts a)) }
@@ -268,13 +273,13 @@ pub(crate) fn push_flows(tree: &Tree, a: Amounts, out: &mut Items<u64>) -> Resul
             out.push(leaving(a, *l))?;
             Ok(())
         }
-        Tree::Then(p, q) => {
+        Tree::Then(_, p, q) => {
             let shares = then_shares(p.get(), q.get(), a);
             push_flows(p.get(), shares.first, out)?;
             push_flows(q.get(), shares.second, out)?;
             Ok(())
         }
-        Tree::Choice(_, p, q) => {
+        Tree::Choice(_, _, p, q) => {
             let shares = choice_shares(p.get(), q.get(), a);
             out.push(whole(shares.first))?;
             out.push(whole(shares.second))?;
@@ -282,7 +287,7 @@ pub(crate) fn push_flows(tree: &Tree, a: Amounts, out: &mut Items<u64>) -> Resul
             push_flows(q.get(), shares.second, out)?;
             Ok(())
         }
-        Tree::While(c, m, step, body) => {
+        Tree::While(_, c, m, step, body) => {
             let turns = while_turns(*c, *m, *step, body.get(), a);
             out.push(turns.on)?;
             out.push(turns.out)?;
@@ -290,14 +295,14 @@ pub(crate) fn push_flows(tree: &Tree, a: Amounts, out: &mut Items<u64>) -> Resul
             push_flows(body.get(), turns.body, out)?;
             Ok(())
         }
-        Tree::Do(c, m, body) => {
+        Tree::Do(_, c, m, body) => {
             let turns = do_turns(*c, *m, body.get(), a);
             push_flows(body.get(), turns.body, out)?;
             out.push(turns.on)?;
             out.push(turns.out)?;
             Ok(())
         }
-        Tree::Body(body) => {
+        Tree::Body(_, body) => {
             push_flows(
                 body.get(),
                 body_amounts(dearest_ways(body.get()), a.next),

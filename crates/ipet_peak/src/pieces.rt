@@ -6,7 +6,7 @@ ghost use Rattle.c_tree.specs.Blocks.{is_simple, blocks, list_blocks};
 ghost use Rattle.c_tree.specs.Statements.{held};
 ghost use Rattle.peak_laws.specs.Parts as spec;
 ghost use Rattle.peak_laws.specs.ProgramParts as program;
-ghost use Rattle.ipet_peak.specs.Pieces.{stack_after_piece, stack_after, Adds, parts_above, costs_after};
+ghost use Rattle.ipet_peak.specs.Pieces.{stack_after_piece, stack_after, Adds, Leads, IsVoid, parts_above, costs_after, parts_made, MakeOneEach};
 
 use c_semantics::is_simple;
 use c_tree::{Costs, Func, NoMemory, Stmt};
@@ -60,7 +60,7 @@ fn put(piece: Piece, out: &mut Items<Piece>) -> Result<(), NoMemory>
     Ok(())
 }
 
-// The block of simple statements that is begun, if there is one.
+// The block of simple statements that is begun, if there is one, before what follows. What is empty has no piece.
 fn put_pending(
     scope: Scope,
     run: bool,
@@ -69,11 +69,23 @@ fn put_pending(
 ) -> Result<usize, NoMemory>
     ensures block { IfOk result (λ b. b ≡ program.block_past_run run at) }
     ensures pieces { IfOk result (λ b. (qs : List spec.Part)
+        → Leads qs out.old out.new (program.pending_block run (costs_after scope.entry.costs.now scope.entry.funcs.now at))) }
+{
+    if !run {
+        return Ok(at);
+    }
+    put(Piece::Join, out)?;
+    put_block(scope, at, Leaving::ByEnd, out)
+}
+
+// The same at the end of a list, which is one part.
+fn put_last(scope: Scope, run: bool, at: usize, out: &mut Items<Piece>) -> Result<usize, NoMemory>
+    ensures block { IfOk result (λ b. b ≡ program.block_past_run run at) }
+    ensures pieces { IfOk result (λ b. (qs : List spec.Part)
         → Adds qs out.old out.new (program.pending_block run (costs_after scope.entry.costs.now scope.entry.funcs.now at))) }
 {
     if run {
-        put(Piece::Block(cost_of(scope, at), Leaving::ByEnd), out)?;
-        plus(at, 1)
+        put_block(scope, at, Leaving::ByEnd, out)
     } else {
         put(Piece::Nothing, out)?;
         Ok(at)
@@ -136,6 +148,23 @@ fn held_step(scope: Scope, step: &Option<Boxed<Stmt>>, at: usize) -> Option<u64>
     }
 }
 
+// Whether the statement is a group of such groups, down to empty ones.
+#[tactic(auto, using(crate::proofs::PartLayers::part_layers, c_tree::proofs::ExecLayers::exec_layers))]
+fn is_void(stmt: &Stmt) -> bool
+    ensures { result ≡ true → IsVoid stmt.now }
+{
+    let Stmt::Group(group) = stmt else {
+        return false;
+    };
+    let list = group.as_slice();
+    for inner in list {
+        if !is_void(inner) {
+            return false;
+        }
+    }
+    true
+}
+
 /// Adds the pieces of a list, whose first block is `at`. The answer is the number of the block after it.
 #[cycle(pieces)]
 pub(crate) fn list_pieces(
@@ -154,14 +183,32 @@ pub(crate) fn list_pieces(
         if is_simple(stmt) {
             run = true;
         } else {
-            put(Piece::Join, out)?;
             let here = put_pending(scope, run, block, out)?;
-            put(Piece::Join, out)?;
-            block = stmt_pieces(scope, stmt, here, out)?;
+            block = next_pieces(scope, stmt, here, out)?;
             run = false;
         }
     }
-    put_pending(scope, run, block, out)
+    put_last(scope, run, block, out)
+}
+
+// A statement that is not simple, before what follows it.
+#[cycle(pieces)]
+fn next_pieces(
+    scope: Scope,
+    stmt: &Stmt,
+    at: usize,
+    out: &mut Items<Piece>,
+) -> Result<usize, NoMemory>
+    requires { is_simple stmt.now ≡ false }
+    ensures block { IfOk result (λ b. b ≡ at + blocks stmt.now false) }
+    ensures pieces { IfOk result (λ b. Leads (parts_above scope.entry.costs.now scope.entry.funcs.now) out.old out.new
+        (program.part (parts_above scope.entry.costs.now scope.entry.funcs.now) (costs_after scope.entry.costs.now scope.entry.funcs.now) stmt.now at)) }
+{
+    if is_void(stmt) {
+        return Ok(at);
+    }
+    put(Piece::Join, out)?;
+    stmt_pieces(scope, stmt, at, out)
 }
 
 // The initialiser of a `for`.
@@ -244,4 +291,34 @@ fn stmt_pieces(
             Ok(at)
         }
     }
+}
+
+// The pieces of one function.
+fn pieces_of(alloc: Global, scope: Scope, body: &[Stmt]) -> Result<Items<Piece>, NoMemory>
+    ensures { IfOk result (λ xs. (ps : List spec.Part) → stack_after (parts_above scope.entry.costs.now scope.entry.funcs.now) xs ps
+        ≡ program.list_part (parts_above scope.entry.costs.now scope.entry.funcs.now) (costs_after scope.entry.costs.now scope.entry.funcs.now) body.now 0 false ∷ ps) }
+{
+    let mut pieces = Items::new(alloc);
+    list_pieces(scope, body, 0, &mut pieces)?;
+    Ok(pieces)
+}
+
+/// The pieces of each function, in order.
+pub(crate) fn function_pieces(
+    alloc: Global,
+    funcs: &[Func],
+    costs: &Costs,
+) -> Result<Items<Items<Piece>>, NoMemory>
+    ensures parts { IfOk result (λ xss. parts_made xss ≡ parts_above costs.now funcs.now) }
+    ensures one { IfOk result (λ xss. MakeOneEach [] xss) }
+{
+    let mut all = Items::new(alloc);
+    for func in 0..funcs.len() {
+        let scope = Scope {
+            funcs: &funcs[..func],
+            costs,
+        };
+        all.push(pieces_of(alloc, scope, funcs[func].body.as_slice())?)?;
+    }
+    Ok(all)
 }

@@ -4,7 +4,7 @@ ghost use Rattle.std.specs.Prelude.{◌≡◌, ◌≤◌, ◌<◌, ◌+◌, ◌^
 ghost use Rattle.flow_laws.specs.Sites as sites;
 ghost use Rattle.peak_laws.specs.Parts as spec;
 ghost use Rattle.peak_laws.specs.Magnitudes.{cap_cost, excess};
-ghost use Rattle.ipet_peak.specs.Trees.{part_of, targets, greatest_target};
+ghost use Rattle.ipet_peak.specs.Trees.{part_of, targets, greatest_target, KeepsWays};
 
 use crate::ahead::{CostsAhead, ahead, all_to, body_of, dearest_cost, larger, with_next};
 use crate::tree::{Tree, dearest_ways, step_cost};
@@ -14,6 +14,7 @@ use sqlite_items::Items;
 
 /// What a part costs from its entry on.
 pub(crate) fn from_entry(tree: &Tree, t: CostsAhead) -> u128
+    requires keeps { KeepsWays tree.now }
     requires tree { cap_cost (part_of tree.now) ≤ 2 ^ 126 }
     requires t { greatest_target (targets t) ≤ 2 ^ 126 }
     ensures value { result ≡ spec.from_entry (part_of tree.now) (targets t) }
@@ -26,6 +27,7 @@ pub(crate) fn from_entry(tree: &Tree, t: CostsAhead) -> u128
 pub(crate) fn from_condition(c: u128, step: u128, body: &Tree, t: CostsAhead) -> u128
     requires c { c < 2 ^ 64 }
     requires step { step < 2 ^ 64 }
+    requires keeps { KeepsWays body.now }
     requires body { cap_cost (part_of body.now) ≤ 2 ^ 125 }
     requires t { greatest_target (targets t) ≤ 2 ^ 125 }
     ensures { result ≡ spec.from_condition c (spec.turn_cost (c + step) (spec.back (spec.dearest_ways (part_of body.now))))
@@ -62,7 +64,8 @@ pub(crate) fn push_potentials(
     t: CostsAhead,
     out: &mut Items<i128>,
 ) -> Result<(), NoMemory>
-    requires { excess (part_of tree.now) + greatest_target (targets t) ≤ 2 ^ 124 }
+    requires keeps { KeepsWays tree.now }
+    requires room { excess (part_of tree.now) + greatest_target (targets t) ≤ 2 ^ 124 }
     ensures { IfOk result (λ u. out.new ≡ out.old ++ map pos (spec.potentials (part_of tree.now) (targets t))) }
 {
     match tree {
@@ -71,13 +74,13 @@ pub(crate) fn push_potentials(
             push(u128::from(*c) + ahead(t, *leaving), out)?;
             Ok(())
         }
-        Tree::Then(a, b) => {
+        Tree::Then(_, a, b) => {
             let entry = from_entry(b.get(), t);
             push_potentials(a.get(), with_next(t, entry), out)?;
             push_potentials(b.get(), t, out)?;
             Ok(())
         }
-        Tree::Choice(c, a, b) => {
+        Tree::Choice(_, c, a, b) => {
             let first = from_entry(a.get(), t);
             let second = from_entry(b.get(), t);
             push(u128::from(*c) + larger(first, second), out)?;
@@ -85,20 +88,20 @@ pub(crate) fn push_potentials(
             push_potentials(b.get(), t, out)?;
             Ok(())
         }
-        Tree::While(c, _, step, a) => {
+        Tree::While(_, c, _, step, a) => {
             let at = from_condition(u128::from(*c), step_cost(*step), a.get(), t);
             push(at, out)?;
             push_step(*step, at, out)?;
             push_potentials(a.get(), body_of(t, step_cost(*step) + at), out)?;
             Ok(())
         }
-        Tree::Do(c, _, a) => {
+        Tree::Do(_, c, _, a) => {
             let at = from_condition(u128::from(*c), 0, a.get(), t);
             push_potentials(a.get(), body_of(t, at), out)?;
             push(at, out)?;
             Ok(())
         }
-        Tree::Body(a) => {
+        Tree::Body(_, a) => {
             push_potentials(a.get(), all_to(t.next), out)?;
             Ok(())
         }

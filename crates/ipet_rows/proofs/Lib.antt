@@ -1,4 +1,3 @@
-pub mod AtCaps
 pub mod Spanned
 pub mod Weighted
 pub mod PathCounts
@@ -6,5 +5,4 @@ pub mod Listed
 pub mod Named
 pub mod OneMore
 pub mod Worked
-pub mod AsDual
 pub mod Counting

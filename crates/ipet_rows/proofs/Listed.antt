@@ -2,9 +2,11 @@
 use Rattle.std.proofs.Common.{◌≡◌, ◌≤◌, ◌<◌, ℕ, zero, suc, ◌+◌, ◌-◌, ℤ, List, [], ◌∷◌, ◌++◌, length, drop, All, Some, refl, sym, ap, ◌∙◌, arith, append_assoc}
 use Rattle.std.specs.Prelude.{slice_get}
 use Rattle.flow_laws.specs.declared.graph.Edge.{Edge}
+use Rattle.flow_laws.specs.declared.graph.Node.{Node}
 use Rattle.c_tree.specs.declared.program.Costs.{Costs}
 use Rattle.flow_laws.specs.Sites.{Site}
-use Rattle.flow_laws.specs.Paths.{cost_of_edge}
+use Rattle.flow_laws.specs.Graphs.{nodes}
+use Rattle.flow_laws.specs.Paths.{cap_of, cost_of_edge}
 use Rattle.ipet_rows.specs.CapsBound.{cap_of_edge, cap_at, costs_of_edges, caps_of_edges}
 use Rattle.std.proofs.lemmas.List.Elements.{All-nil, All-cons}
 use Rattle.lin_rows.specs.declared.row.Row.{Row}
@@ -63,3 +65,8 @@ next_limit g es j old new all lt more so_far =
 pub limits_ordered : (g : List Site) (es : List Edge) → All (λ limit. limit.0 ≤ limit.1) (caps_of_edges g es)
 limits_ordered g [] = All-nil (λ (limit : ℕ × ℕ). limit.0 ≤ limit.1)
 limits_ordered g (e ∷ es) = All-cons (λ (limit : ℕ × ℕ). limit.0 ≤ limit.1) (0, cap_of_edge g e) (caps_of_edges g es) (omega arith) (limits_ordered g es)
+
+pub cap_is : (g : List Site) (n : ℕ) (x : Node) → slice_get (nodes g) n ≡ Some x → cap_of (slice_get g n) ≡ x.cap
+cap_is [] n x h = absurd (cc)
+cap_is (s ∷ g) zero x h = let same : s.node ≡ x = cc in ap (λ (y : Node). y.cap) same
+cap_is (s ∷ g) (suc n) x h = cap_is g n x h

@@ -17,6 +17,7 @@ use Rattle.flow_laws.specs.Sites.{Content, Entry, Exit, Simple, Test, Jump, Give
 use Rattle.flow_laws.specs.Graphs.{leaves, outs, edges_from, graph, edges}
 use Rattle.flow_laws.specs.Paths.{cap_of_copy, copy_caps, cost_of_block, cost_of_edge, cost_of_site, cap_of}
 use Rattle.flow_laws.proofs.CapSums.{caps_are_span}
+use Rattle.typed_laws.proofs.SpansOfFunctions.{spans_more}
 use Rattle.ipet_rows.specs.CapsBound.{cap_of_edge, cost_at_caps, caps_bound, AreSmall}
 
 -- ---- spans
@@ -30,14 +31,10 @@ one_more [] m h k (suc g) = omega arith
 one_more (s ∷ ss) m h k zero = h 0
 one_more (s ∷ ss) m h k (suc g) = one_more ss m (λ n. h (suc n)) k g
 
-spans_of_more : (ss : List ℕ) (fs : List Func) (f : Func) → spans ss (fs ++ f ∷ []) ≡ spans ss fs ++ func_span (spans ss fs) f ∷ []
-spans_of_more ss [] f = refl
-spans_of_more ss (d ∷ fs) f = spans_of_more (ss ++ func_span ss d ∷ []) fs f
-
 all_spans : (globals : List Shape) (above fs : List Func) (ss : List ℕ) → ss ≡ spans [] above → AreSpans ss → WellFormedFuncs globals above fs → AreSpans (spans ss fs)
 all_spans globals above [] ss is h w = h
 all_spans globals above (f ∷ fs) ss is h w =
-    let next : ss ++ func_span ss f ∷ [] ≡ spans [] (above ++ f ∷ []) = ap (λ y. y ++ func_span y f ∷ []) is ∙ sym (spans_of_more [] above f) in
+    let next : ss ++ func_span ss f ∷ [] ≡ spans [] (above ++ f ∷ []) = ap (λ y. y ++ func_span y f ∷ []) is ∙ sym (spans_more [] above f) in
     let own : func_span ss f ≤ 2 ^ 64 = subst (λ y. func_span y f ≤ 2 ^ 64) (sym is) w.0.span in
     all_spans globals (above ++ f ∷ []) fs (ss ++ func_span ss f ∷ []) next (one_more ss (func_span ss f) h own) w.1
 

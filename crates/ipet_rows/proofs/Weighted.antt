@@ -23,7 +23,7 @@ count_at q i (suc k) (e ∷ es) h =
     let z : i + 1 + k ≡ i + suc k = omega arith in
     count_at q (i + 1) k es (omega (arith, h)) ∙ ap (count q) z
 
-one_term : (z : ℤ) (i c : ℕ) (ts : List (ℕ × ℤ)) (x : List ℕ) → slice_index x i ≡ c → left_side (term i z ++ ts) x ≡ z *ℤ pos c +ℤ left_side ts x
+pub one_term : (z : ℤ) (i c : ℕ) (ts : List (ℕ × ℤ)) (x : List ℕ) → slice_index x i ≡ c → left_side (term i z ++ ts) x ≡ z *ℤ pos c +ℤ left_side ts x
 one_term (pos zero) i c ts x h = omega (arith, ints)
 one_term (pos (suc k)) i c ts x h = ap (λ n. pos (suc k) *ℤ pos n +ℤ left_side ts x) h
 one_term (negsuc k) i c ts x h = ap (λ n. negsuc k *ℤ pos n +ℤ left_side ts x) h
@@ -64,14 +64,14 @@ abbrev pub hits : (ℕ → Bool) → List ℕ → ℕ → List Edge → ℕ
 hits r q i [] = 0
 hits r q i (e ∷ es) = if r i then count q i + hits r q (i + 1) es else hits r q (i + 1) es
 
-minus_times : (a m c : ℕ) → (pos a -ℤ pos m) *ℤ pos c ≡ pos (a * c) -ℤ pos (m * c)
+pub minus_times : (a m c : ℕ) → (pos a -ℤ pos m) *ℤ pos c ≡ pos (a * c) -ℤ pos (m * c)
 minus_times a m c =
     let back : (pos a -ℤ pos m) +ℤ pos m ≡ pos a = omega (arith, ints) in
     let all : ((pos a -ℤ pos m) +ℤ pos m) *ℤ pos c ≡ pos (a * c) = ap (λ z. z *ℤ pos c) back in
     let apart = plus-times (pos a -ℤ pos m) (pos m) (pos c) in
     omega (arith, ints, all, apart)
 
-with_bound : (a m c : ℕ) (w : ℤ) → (pos a -ℤ pos m *ℤ pos 1) *ℤ pos c +ℤ w ≡ (pos (a * c) -ℤ pos (m * c)) +ℤ w
+pub with_bound : (a m c : ℕ) (w : ℤ) → (pos a -ℤ pos m *ℤ pos 1) *ℤ pos c +ℤ w ≡ (pos (a * c) -ℤ pos (m * c)) +ℤ w
 with_bound a m c w =
     let z : m * 1 ≡ m = omega arith in
     ap (λ n. (pos a -ℤ pos n) *ℤ pos c +ℤ w) z ∙ ap (λ y. y +ℤ w) (minus_times a m c)

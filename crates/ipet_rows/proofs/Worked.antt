@@ -1,6 +1,6 @@
--- Worked rows and bounds, computed.
+-- Worked rows, computed.
 use Rattle.std.proofs.Common.{◌≡◌, ◌∷◌, [], length, refl}
-use Rattle.c_tree.specs.Worked.{ones, two_thresholds, two_thresholds_costs, counted_while, counted_do, local, initialised_by_call}
+use Rattle.c_tree.specs.Worked.{two_thresholds, counted_while, counted_do, local, initialised_by_call}
 use Rattle.c_tree.specs.Blocks as blocks
 use Rattle.c_tree.specs.declared.tree.Expr.TheBlock as eb
 use Rattle.c_tree.specs.declared.tree.Stmt.TheBlock as sb
@@ -10,7 +10,6 @@ use Rattle.flow_laws.specs.Graphs as graphs
 use Rattle.flow_laws.specs.Sites as sites
 use Rattle.flow_laws.specs.WorkedGraphs.{empty_do}
 use Rattle.ipet_rows.specs.FlowRows.{flow_rows}
-use Rattle.ipet_rows.specs.CapsBound.{caps_bound}
 use Rattle.ipet_rows.specs.Worked.{plus, minus, equal, at_most, once_do}
 
 pub worked-two_choices : length (flow_rows (graph two_thresholds)) ≡ 7
@@ -36,11 +35,3 @@ worked-itself = refl
 pub worked-once : flow_rows (graph once_do) ≡ equal (plus 0 1 ∷ []) 1 ∷ equal (minus 0 1 ∷ plus 2 1 ∷ []) 0 ∷ equal (minus 2 1 ∷ plus 3 1 ∷ []) 0 ∷ at_most (plus 1 1 ∷ []) 0 ∷ []
 unfolding two_thresholds counted_while counted_do initialised_by_call empty_do once_do graphs.graph graphs.edges sites.flow sites.row_flow sites.held_flow sites.size sites.row_size sites.held_size blocks.blocks blocks.row_blocks blocks.held_blocks eb.shape-the_row-Expr-0 eb.hidden-the_row-Expr-0 sb.shape-the_row-Stmt-0 sb.hidden-the_row-Stmt-0 sb.shape-the_row-Stmt-1 sb.hidden-the_row-Stmt-1 carrier.hidden
 worked-once = refl
-
-pub worked-bound_of_while : caps_bound ones (graph counted_while) ≡ 34
-unfolding two_thresholds counted_while counted_do initialised_by_call empty_do once_do graphs.graph graphs.edges sites.flow sites.row_flow sites.held_flow sites.size sites.row_size sites.held_size blocks.blocks blocks.row_blocks blocks.held_blocks eb.shape-the_row-Expr-0 eb.hidden-the_row-Expr-0 sb.shape-the_row-Stmt-0 sb.hidden-the_row-Stmt-0 sb.shape-the_row-Stmt-1 sb.hidden-the_row-Stmt-1 carrier.hidden
-worked-bound_of_while = refl
-
-pub worked-bound_of_choices : caps_bound two_thresholds_costs (graph two_thresholds) ≡ 96
-unfolding two_thresholds counted_while counted_do initialised_by_call empty_do once_do graphs.graph graphs.edges sites.flow sites.row_flow sites.held_flow sites.size sites.row_size sites.held_size blocks.blocks blocks.row_blocks blocks.held_blocks eb.shape-the_row-Expr-0 eb.hidden-the_row-Expr-0 sb.shape-the_row-Stmt-0 sb.hidden-the_row-Stmt-0 sb.shape-the_row-Stmt-1 sb.hidden-the_row-Stmt-1 carrier.hidden
-worked-bound_of_choices = refl

@@ -1,5 +1,4 @@
--- The bound that the caps give: what all edges cost, each taken as often as its cap says. It is the dual value of the divisor 1 and the
--- multipliers 0 over the box from 0 to the caps.
+-- The costs and the caps of edges, and what all edges cost, each taken as often as its cap says.
 use Rattle.std.specs.Prelude.{◌<◌, ℕ, ◌+◌, ◌*◌, ◌^◌, List, [], ◌∷◌, Option, Some, None, slice_get}
 use Rattle.c_tree.specs.declared.program.BlockName.{BlockName}
 use Rattle.c_tree.specs.declared.program.Costs.{Costs}

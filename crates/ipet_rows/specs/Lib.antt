@@ -5,4 +5,3 @@ pub mod Sound
 pub mod Worked
 pub mod Optimum
 pub mod Counted
-pub mod PlainDual

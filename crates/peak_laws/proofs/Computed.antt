@@ -9,7 +9,7 @@ use Rattle.flow_graph.specs.Plans.{Planned}
 use Rattle.lin_rows.specs.declared.count_box.CountBox.{CountBox}
 use Rattle.lin_rows.specs.declared.objective.Objective.{Objective}
 use Rattle.lin_rows.specs.declared.row.Rows.{Rows}
-use Rattle.ipet_rows.specs.CapsBound.{caps_of_edges, caps_bound}
+use Rattle.ipet_rows.specs.CapsBound.{caps_of_edges, AreSmall}
 use Rattle.peak_laws.specs.declared.answer.Peak.{Peak}
 use Rattle.peak_laws.specs.Answers.{FromZero, IsPeakDual}
 use Rattle.ipet_rows.specs.Optimum.{MeetFlowRows, cost_of_counts, IpetOptimum}
@@ -25,7 +25,7 @@ is_dual : (plan : Planned) (peak : Peak) (rows : Rows) (objective : Objective) (
 is_dual plan peak rows objective within c a =
     record { rows_are = a.rows_are; costs_are = a.costs_are; limits = subst FromZero (sym a.limits_are) (from_zero (graph plan.program) (edges (graph plan.program))); divisor = c.divisor; multipliers = c.multipliers }
 
-pub is_peak : (plan : Planned) (peak : Peak) → WellFormed plan.program → caps_bound plan.costs (graph plan.program) ≤ 2 ^ 97 → refusal (graph plan.program) ≡ None → IsComputed plan peak → IsPeakOf plan peak
+pub is_peak : (plan : Planned) (peak : Peak) → WellFormed plan.program → AreSmall plan.costs → refusal (graph plan.program) ≡ None → IsComputed plan peak → IsPeakOf plan peak
 is_peak plan peak formed small allowed c =
     let p = plan.program in
     let t = plan.costs in

@@ -8,6 +8,8 @@ use Rattle.flow_laws.specs.Sites.{Targets, head, with_next, body_of}
 use Rattle.flow_laws.specs.Graphs.{leaves, all_to}
 use Rattle.peak_laws.specs.Parts.{Leaving, ByEnd, ByBreak, ByContinue, ByReturn, Part, Nothing, Block, Then, Choice, While, Do, Body, Ways, dearest_ways, back, turn, step_costs, step_size, size, step_edges, part_edges, greater, more, both}
 use Rattle.peak_laws.specs.Flows.{by_first, by_second, whole, then_first, then_second, choice_first, choice_second, while_stays, while_breaks, do_stays, do_breaks, loop_body_amounts, while_full, do_full, body_amounts, step_flows, flows, edge_costs, Feasible}
+use Rattle.flow_laws.proofs.Parts.{head_self}
+use Rattle.flow_laws.proofs.Sizes.{head_plus}
 use Rattle.peak_laws.proofs.Places.{Every}
 use Rattle.peak_laws.proofs.Amounts.{shared, then_first_feasible, then_second_feasible, choice_first_feasible, choice_second_feasible, while_feasible, do_feasible, body_feasible, flows_length, step_flows_length}
 
@@ -96,22 +98,9 @@ step_counts_length s n x = step_flows_length s x ∙ sym (step_edges_length s n)
 
 -- ---- first nodes
 
-pub head_plus : (m r n x : ℕ) → head (m + r) n x ≡ head m n (head r (n + m) x)
-head_plus zero r n x =
-    let z : 0 + r ≡ r = omega arith in
-    let y : n ≡ n + 0 = omega arith in
-    ap (λ i. head i n x) z ∙ ap (λ i. head r i x) y
-head_plus (suc m) r n x =
-    let z : suc m + r ≡ suc (m + r) = omega arith in
-    ap (λ i. head i n x) z
-
 pub head_some : (m n x : ℕ) → 0 < m → head m n x ≡ n
 head_some zero n x h = absurd (omega (arith, h))
 head_some (suc m) n x h = refl
-
-pub head_self : (m n : ℕ) → head m n (n + m) ≡ n
-head_self zero n = omega arith
-head_self (suc m) n = refl
 
 -- ---- what enters a node leaves it
 

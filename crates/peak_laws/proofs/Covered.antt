@@ -1,12 +1,13 @@
 -- The potentials of a part cover the costs of its edges, and what is paid where it is entered is its cost from there on.
 use Rattle.std.proofs.Common.{◌≡◌, ◌≤◌, ◌<◌, ◌⊎◌, inl, inr, ℕ, zero, suc, ◌+◌, ◌-◌, ◌*◌, Bool, true, false, if◌then◌else◌, List, [], ◌∷◌, ◌++◌, Option, Some, None, refl, sym, ap, ◌∙◌, subst, arith}
 use Rattle.std.specs.Prelude.{◌==◌, ◌&&◌, not}
-use Rattle.std.proofs.lemmas.Bool.{eqb-true, eqb-false, ne_eqb, eq-eqb, le-leb, lt-ltb}
+use Rattle.std.proofs.lemmas.Bool.{eqb-true, eqb-false, ne_eqb, eq-eqb}
 use Rattle.flow_laws.specs.declared.graph.Way.TheVariants.{Next, True, False}
 use Rattle.flow_laws.specs.declared.graph.Edge.{Edge}
 use Rattle.flow_laws.specs.Sites.{LoopCopy, Targets, head, with_next, body_of}
 use Rattle.flow_laws.specs.Graphs.{leaves, is_in, enters, all_to}
 use Rattle.peak_laws.specs.Parts.{Leaving, ByEnd, ByBreak, ByContinue, ByReturn, Part, Nothing, Block, Then, Choice, While, Do, Body, ahead, from_entry, dearest_ways, turn, at_condition, step_cost, step_size, size, step_costs, node_costs, step_potentials, potentials, step_edges, part_edges, CostedLoop, costed_loop, while_copy, do_copy, costed_loops, turn_limit, turns, entry_charge, turn_refund, Covers}
+use Rattle.flow_laws.proofs.Steps.{not_enters}
 use Rattle.peak_laws.proofs.Dearest.{turning}
 use Rattle.peak_laws.proofs.Places.{Every, every_append, head_has, every_with, Apart, Outside, From, froms, To, tos, Within, within, Agrees, agrees_left, agrees_right, agrees_alike, step_costs_length, step_potentials_length, costs_length, potentials_length, idle}
 
@@ -36,16 +37,8 @@ entry_charge_apart lo hi (f ∷ fs) e w h =
     omega (arith, ap (λ b. if b then turn_limit f.loop_copy * f.turn else 0) none, entry_charge_apart lo hi fs e w.1 h)
 
 -- nor does one from inside
-and_false : (a : Bool) → (a && false) ≡ false
-and_false true = refl
-and_false false = refl
-
-pub inside_enters : (l : LoopCopy) (e : Edge) → l.from ≤ e.from → e.from < l.past → enters l e ≡ false
-inside_enters l e le lt =
-    (λ i. (e.to == l.from) && not (le-leb l.from e.from le i && lt-ltb e.from l.past lt i)) ∙ and_false (e.to == l.from)
-
 inside_pays : (l : LoopCopy) (y : ℕ) (e : Edge) → l.from ≤ e.from → e.from < l.past → (if enters l e then turn_limit l * y else 0) ≡ 0
-inside_pays l y e le lt = ap (λ b. if b then turn_limit l * y else 0) (inside_enters l e le lt)
+inside_pays l y e le lt = ap (λ b. if b then turn_limit l * y else 0) (not_enters l e le lt)
 
 pub turned : (n t : ℕ) (l : LoopCopy) → n ≡ l.test → turns l (leaves n True t) ≡ true
 turned n t l is = eq-eqb n l.test is

@@ -20,7 +20,9 @@ use Rattle.peak_laws.specs.Parts.{Leaving, ByEnd, ByBreak, ByContinue, ByReturn,
 use Rattle.peak_laws.specs.Answers.{copies_of_loops}
 use Rattle.peak_laws.specs.Magnitudes.{step_caps, node_caps}
 use Rattle.peak_laws.specs.ProgramParts.{is_nothing, sequence, pending_block, block_past_run, call_part, held_step, part, row_part, held_part, costs_in}
-use Rattle.peak_laws.proofs.Conserved.{head_plus, head_some, head_self}
+use Rattle.flow_laws.proofs.Parts.{head_self}
+use Rattle.flow_laws.proofs.Sizes.{head_plus}
+use Rattle.peak_laws.proofs.Conserved.{head_some}
 
 -- ---- nodes one after the other
 

@@ -26,7 +26,7 @@ use Rattle.lin_rows.specs.declared.row.Rows.{Rows}
 use Rattle.bound_cert.specs.Dual.{weighted_rights, weighted_terms, weighted_factors, reduced_cost, edge_bound}
 use Rattle.bound_cert.specs.DualSteps.{reduced_cost_steps, edge_steps, edges_steps, dual_steps}
 use Rattle.ipet_rows.specs.FlowRows.{one_if, terms, node_factor, loop_factor, entry_row, node_rows, loop_row, loop_rows, flow_rows}
-use Rattle.ipet_rows.specs.CapsBound.{caps_bound, AreSmall}
+use Rattle.ipet_rows.specs.CapsBound.{AreSmall}
 use Rattle.ipet_rows.proofs.Spanned.{bound_within}
 use Rattle.peak_laws.specs.Parts.{Part, Nothing, Block, Then, Choice, While, Do, Body, size, step_size, step_costs, dearest_ways, turn, potentials, CostedLoop, costed_loop, do_copy, costed_loops, turn_limit, turns, turn_refund, entry_charge}
 use Rattle.peak_laws.specs.Magnitudes.{cap_cost, loop_count, excess}
@@ -233,19 +233,15 @@ allowed_edges : (g : List Site) → refusal g ≡ None → length (edges g) ≤ 
 unfolding refusal
 allowed_edges g h = edges_few (block_copies g) (length (edges g)) (first_above (2 ^ 40) g) h
 
-pub is_small : (p : Program) (t : Costs) → WellFormed p → caps_bound t (graph p) ≤ 2 ^ 97 → refusal (graph p) ≡ None → IsSmall (program_part p t)
-is_small p t formed caps allowed =
+pub is_small : (p : Program) (t : Costs) → WellFormed p → AreSmall t → refusal (graph p) ≡ None → IsSmall (program_part p t)
+is_small p t formed costs allowed =
     let g = graph p in
     let q = program_part p t in
     let h = program_shaped p t formed in
     record {
-      cap_cost = omega (arith, cap_cost_within t g q h, caps);
+      cap_cost = omega (arith, cap_cost_within t g q h, bound_within p t formed costs);
       loops = omega (arith, loops_few q, allowed_edges g allowed, ap length h.edges_are, edges_length q 2 (all_to 1));
     }
 
-pub dual_fits : (p : Program) (t : Costs) (rows : Rows) (objective : Objective) (within : CountBox) (by : Multipliers) → WellFormed p → caps_bound t (graph p) ≤ 2 ^ 97 → refusal (graph p) ≡ None → IsPeakDual p t rows objective within by → StaysInI128 (dual_steps rows objective within by)
-dual_fits p t rows objective within by formed caps allowed d = all_fit p t rows objective within by formed (is_small p t formed caps allowed) d
-
--- where each block costs less than 2^32 the bound by caps is that small
-pub dual_fits_small : (p : Program) (t : Costs) (rows : Rows) (objective : Objective) (within : CountBox) (by : Multipliers) → WellFormed p → AreSmall t → refusal (graph p) ≡ None → IsPeakDual p t rows objective within by → StaysInI128 (dual_steps rows objective within by)
-dual_fits_small p t rows objective within by formed costs allowed d = dual_fits p t rows objective within by formed (bound_within p t formed costs) allowed d
+pub dual_fits : (p : Program) (t : Costs) (rows : Rows) (objective : Objective) (within : CountBox) (by : Multipliers) → WellFormed p → AreSmall t → refusal (graph p) ≡ None → IsPeakDual p t rows objective within by → StaysInI128 (dual_steps rows objective within by)
+dual_fits p t rows objective within by formed costs allowed d = all_fit p t rows objective within by formed (is_small p t formed costs allowed) d

@@ -6,8 +6,8 @@ use Rattle.flow_laws.specs.declared.graph.Edge.{Edge}
 use Rattle.flow_laws.specs.declared.graph.Loop.{Loop}
 use Rattle.flow_laws.specs.Paths.{is_among, most_turns}
 use Rattle.lin_rows.specs.Meeting.{left_side}
-use Rattle.bound_cert.proofs.Products.{plus-times}
 use Rattle.ipet_rows.specs.FlowRows.{one_if, term, terms, node_factor, loop_factor}
+use Rattle.ipet_rows.proofs.Weighted.{one_term, minus_times, with_bound}
 use Rattle.peak_laws.proofs.Conserved.{weigh, leaving, arriving}
 
 -- the sum of factor times count over the edges, of which the first has the number i
@@ -15,11 +15,6 @@ abbrev pub weighted : (ℕ → Edge → ℤ) → ℕ → List Edge → List ℕ 
 weighted f i [] xs = pos 0
 weighted f i (e ∷ es) [] = pos 0
 weighted f i (e ∷ es) (x ∷ xs) = f i e *ℤ pos x +ℤ weighted f (i + 1) es xs
-
-one_term : (z : ℤ) (i c : ℕ) (ts : List (ℕ × ℤ)) (x : List ℕ) → slice_index x i ≡ c → left_side (term i z ++ ts) x ≡ z *ℤ pos c +ℤ left_side ts x
-one_term (pos zero) i c ts x h = omega (arith, ints)
-one_term (pos (suc k)) i c ts x h = ap (λ n. pos (suc k) *ℤ pos n +ℤ left_side ts x) h
-one_term (negsuc k) i c ts x h = ap (λ n. negsuc k *ℤ pos n +ℤ left_side ts x) h
 
 left_from : (f : ℕ → Edge → ℤ) (all : List ℕ) (i : ℕ) (es : List Edge) (xs : List ℕ) → length xs ≡ length es → ((k : ℕ) → k < length es → slice_index all (i + k) ≡ slice_index xs k) → left_side (terms f i es) all ≡ weighted f i es xs
 left_from f all i [] xs long h = refl
@@ -53,18 +48,6 @@ node_is n i (e ∷ es) (x ∷ xs) = by_ends (e.from == n) (e.to == n) x (leaving
     by_ends false false c out into w h = omega (arith, ints, h)
 
 -- ---- loops
-
-minus_times : (a m c : ℕ) → (pos a -ℤ pos m) *ℤ pos c ≡ pos (a * c) -ℤ pos (m * c)
-minus_times a m c =
-    let back : (pos a -ℤ pos m) +ℤ pos m ≡ pos a = omega (arith, ints) in
-    let all : ((pos a -ℤ pos m) +ℤ pos m) *ℤ pos c ≡ pos (a * c) = ap (λ z. z *ℤ pos c) back in
-    let apart = plus-times (pos a -ℤ pos m) (pos m) (pos c) in
-    omega (arith, ints, all, apart)
-
-with_bound : (a m c : ℕ) (w : ℤ) → (pos a -ℤ pos m *ℤ pos 1) *ℤ pos c +ℤ w ≡ (pos (a * c) -ℤ pos (m * c)) +ℤ w
-with_bound a m c w =
-    let z : m * 1 ≡ m = omega arith in
-    ap (λ n. (pos a -ℤ pos n) *ℤ pos c +ℤ w) z ∙ ap (λ y. y +ℤ w) (minus_times a m c)
 
 without_bound : (a m c : ℕ) (w : ℤ) → (pos a -ℤ pos m *ℤ pos 0) *ℤ pos c +ℤ w ≡ pos (a * c) +ℤ w
 without_bound a m c w =

@@ -11,7 +11,9 @@ use Rattle.peak_laws.specs.Parts.{Part, Nothing, Block, Then, Choice, While, Do,
 use Rattle.peak_laws.specs.Flows.{whole, then_first, then_second, choice_first, choice_second, amount_by_way, while_stays, while_breaks, do_stays, do_breaks, loop_body_amounts, while_full, do_full, body_amounts, step_flows, flows, Feasible}
 use Rattle.peak_laws.proofs.Places.{Every, every_append, every_of, every_with, From, froms, Within, within}
 use Rattle.peak_laws.proofs.Amounts.{shared, then_first_feasible, then_second_feasible, choice_first_feasible, choice_second_feasible, while_feasible, do_feasible, body_feasible}
-use Rattle.peak_laws.proofs.Conserved.{weigh, weigh_append, weigh_same, weigh_none, arriving, at, at_sum, at_here, counts_length, step_counts_length, head_plus, head_some, head_self, then_whole, body_whole, conserved}
+use Rattle.flow_laws.proofs.Parts.{head_self}
+use Rattle.flow_laws.proofs.Sizes.{head_plus}
+use Rattle.peak_laws.proofs.Conserved.{weigh, weigh_append, weigh_same, weigh_none, arriving, at, at_sum, at_here, counts_length, step_counts_length, head_some, then_whole, body_whole, conserved}
 
 -- ---- which edges enter and turn a loop
 

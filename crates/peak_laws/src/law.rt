@@ -20,7 +20,7 @@ ghost use Rattle.peak_laws.specs.Peaks.{IsComputed, IsPeakOf};
 ghost use Rattle.lin_rows.specs.Steps.{StaysInI128};
 ghost use Rattle.bound_cert.specs.Dual.{dual};
 ghost use Rattle.bound_cert.specs.DualSteps.{dual_steps};
-ghost use Rattle.ipet_rows.specs.CapsBound.{AreSmall, caps_bound};
+ghost use Rattle.ipet_rows.specs.CapsBound.{AreSmall};
 ghost use Rattle.bound_cert.specs.Fitting.{FitsRows};
 ghost use Rattle.ipet_rows.specs.Optimum.{MeetFlowRows, cost_of_counts, IpetOptimum};
 ghost use Rattle.peak_laws.specs.Answers.{peak_value, peak_counts, IsPeakDual};
@@ -61,10 +61,10 @@ pub fn part_bounds()
 {}
 
 /// What is computed for a plan is its peak: all that is left to the code is the value, the counts and the multipliers
-/// of the program's part. What the caps of a plan allow is at most 2^83, so the condition on it always holds there.
+/// of the program's part. The costs of a plan are numbers of 32 bits, so the condition on them always holds there.
 pub fn computed_is_peak()
     ensures { (plan : Planned) (peak : Peak) → WellFormed plan.program
-        → caps_bound plan.costs (graph plan.program) ≤ 2 ^ 97 → refusal (graph plan.program) ≡ None
+        → AreSmall plan.costs → refusal (graph plan.program) ≡ None
         → IsComputed plan peak → IsPeakOf plan peak }
 {}
 

@@ -23,8 +23,8 @@ fn row_is_small(row: &[u32])
     ensures { (n : ℕ) → unwrap_or (slice_get row.now n) 0 < 2 ^ 32 }
 {}
 
-// Each block's cost is less than 2^32, as the type of the table says: it leaves the table as it is.
-fn costs_are_small(costs: &Costs)
+/// Each block's cost is less than 2^32, as the type of the table says. It leaves the table as it is.
+pub fn costs_are_small(costs: &Costs)
     ensures { (b : BlockName) → block_cost costs.now b < 2 ^ 32 }
 {
     let rows = costs.by_func.as_slice();

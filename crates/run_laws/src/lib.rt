@@ -3,4 +3,4 @@
 
 mod costs;
 
-pub use costs::costs_of_runs_fit;
+pub use costs::{costs_are_small, costs_of_runs_fit};

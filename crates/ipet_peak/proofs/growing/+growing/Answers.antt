@@ -1,34 +1,42 @@
 -- Each piece makes a tree of those before it, and all of them the function's.
-use Rattle.std.proofs.Common.{false, ◌∙◌, ap, sym, arith, take, [], ◌∷◌}
-use Rattle.std.specs.Prelude.{unwrap_or}
-use Rattle.c_tree.specs.declared.program.Func.{Func}
+use Rattle.std.proofs.lemmas.Grind.{common_steps}
+use Rattle.std.proofs.Common.{Some, rules, arith, ◌^◌, take, [], ◌∷◌, ap, sym, ◌∙◌, subst, refl}
+use Rattle.std.specs.Prelude.{IfOk}
+use Rattle.std.proofs.lemmas.Option.{slice_get-get_or}
+use Rattle.flow_graph.proofs.Laid.{if_ok}
 use Rattle.flow_graph.proofs.Unfolded.{got_at}
 use Rattle.peak_laws.specs.Parts as spec
-use Rattle.peak_laws.specs.ProgramParts.{list_part}
-use Rattle.ipet_peak.specs.Pieces.{last_part, stack_after, parts_above, costs_after}
-use Rattle.ipet_peak.specs.Trees.{part_of, parts_of}
-use Rattle.ipet_peak.proofs.TreeLayers.{part-Nothing}
-use Rattle.ipet_peak.proofs.PartSteps.{none_at, parts_length}
-use Rattle.ipet_peak.proofs.Grown.{grown, grown_step}
+use Rattle.ipet_peak.specs.Pieces.{part_at, stack_after, parts_made}
+use Rattle.ipet_peak.specs.Trees.{part_of, parts_of, IsTreeOf, EachKeepsWays}
+use Rattle.ipet_peak.proofs.Grown.{makes_of, last_room, Standing, grown_step, none_made, above_length, one_above, one_made, grown}
 use Rattle.ipet_peak.proofs.growing.+growing.Goals as goal
 
 pub callee_tree-returns-else-callee-funcs : goal.callee_tree-returns-else-callee-funcs
 callee_tree-returns-else-callee-funcs t c =
-    let qs = parts_above c.args.costs.now c.args.funcs.now in
-    let long = parts_length c.args.costs.now [] c.args.funcs.now in
-    part-Nothing ∙ sym (ap (λ o. unwrap_or o spec.Nothing) (none_at qs c.args.callee (omega (arith, long, c.if-callee-funcs.false))))
+    subst (λ p. IfOk c.no_tree.result (λ z. IsTreeOf z p)) (sym (none_made c.args.funcs.now c.args.callee c.if-callee-funcs.false)) c.no_tree.ensures
+
+pub func_tree-pieces-init : goal.func_tree-pieces-init
+func_tree-pieces-init t c =
+    let qs = parts_made (take c.args.func c.args.funcs.now) in
+    record { whole = ap (λ ts. stack_after qs c.as_slice-left.result.now (parts_of ts)) c.new-trees.ensures; kept = subst EachKeepsWays (sym c.new-trees.ensures) tt }
+
+pub func_tree-make-requires : goal.func_tree-make-requires
+func_tree-make-requires t c =
+    let a = c.args in
+    let long = above_length a.funcs.now a.func c.requires.func in
+    let got = got_at a.funcs.now a.func c.index-funcs-func.result c.requires.func c.index-funcs-func.is ∙ ap Some (sym c.as_slice-left.ensures) in
+    let whole = c.pieces.invariant.whole ∙ one_made a.funcs.now a.func c.as_slice-left.result.now c.requires.one got in
+    let room = last_room (parts_made (take a.func a.funcs.now)) c.pieces.left.now c.in-Some.rest.now c.in-Some.piece.now (parts_of c.pieces.trees) _ (2 ^ 126) c.in-Some.ensures.cases.0 whole c.requires.room in
+    (first_of (omega (arith, long), omega (arith, long, c.decreases), search rules, grind (arith, common_steps)), (one_above a.funcs.now _ a.func refl c.requires.one, (c.pieces.invariant.kept, room)))
 
 pub func_tree-pieces-preserved : goal.func_tree-pieces-preserved
 func_tree-pieces-preserved t c =
-    grown_step (parts_above c.args.costs.now (take c.args.func c.args.funcs.now)) c.pieces.pieces c.pop.new.self c.in-Some.piece c.pieces.trees c.make.new.trees c.push.new.self c.in_ok-tree.tree _ c.in-Some.ensures c.in_ok-tree.ensures c.in_ok-push.ensures.ok c.pieces.invariant
+    grown_step (parts_made (take c.args.func c.args.funcs.now)) c.pieces.left.now c.in-Some.rest.now c.in-Some.piece.now c.pieces.trees c.make.new.trees c.push.new.self c.in_ok-tree.tree _ c.in-Some.ensures.cases.0 c.in_ok-tree.ensures c.in_ok-push.ensures.ok c.pieces.invariant
 
 pub func_tree-returns : goal.func_tree-returns
 func_tree-returns t c =
     let a = c.args in
-    let above = take a.func a.funcs.now in
-    let qs = parts_above a.costs.now above in
-    let f = c.index-funcs-func.result in
-    let got = got_at a.funcs.now a.func f c.requires c.index-funcs-func.is in
-    let p = list_part qs (costs_after a.costs.now above) c.as_slice.result.now 0 false in
-    let ends = ap (λ xs. stack_after qs xs (parts_of c.pieces.trees)) (sym c.in_default.ensures.0) ∙ c.pieces.invariant ∙ c.in_ok-list_pieces.ensures.pieces [] ∙ ap (λ xs. stack_after qs xs (p ∷ [])) c.new-pieces.ensures in
-    grown a.costs.now a.funcs.now above a.func f c.as_slice.result.now (part_of c.take_last.result) got (λ i. above) c.requires (c.as_slice.ensures ∙ ap (λ (y : Func). y.body) (sym c.index-funcs-func.is)) (c.take_last.ensures.last ∙ ap last_part ends)
+    let qs = parts_made (take a.func a.funcs.now) in
+    let got = got_at a.funcs.now a.func c.index-funcs-func.result c.requires.func c.index-funcs-func.is ∙ ap Some (sym c.as_slice-left.ensures) in
+    let standing = subst (Standing qs c.pieces.left.now c.pieces.trees) (one_made a.funcs.now a.func c.as_slice-left.result.now c.requires.one got) c.pieces.invariant in
+    if_ok c.take_last.result _ _ (λ z is. grown qs c.pieces.left.now c.pieces.trees (part_at (parts_made a.funcs.now) a.func) z c.in_default.ensures.cases standing is) c.take_last.ensures.last

@@ -11,7 +11,7 @@ use Rattle.peak_laws.specs.ProgramParts.{list_part}
 use Rattle.ipet_peak.specs.Pieces.{stack_after, parts_above, costs_after}
 use Rattle.ipet_peak.proofs.PartSteps.{at_first, simple_step, plain_step, reread, at_last, for_is}
 use Rattle.ipet_peak.proofs.pieces.+pieces.Goals as goal
-use Rattle.ipet_peak.proofs.pieces.+pieces.Goals.{list_pieces-then-is_simple, list_pieces-else-is_simple+in_ok-put+in_ok-here+in_ok-put-2+in_ok-block}
+use Rattle.ipet_peak.proofs.pieces.+pieces.Goals.{list_pieces-then-is_simple, list_pieces-else-is_simple+in_ok-here+in_ok-block}
 
 -- ---- a list
 
@@ -35,9 +35,9 @@ list_pieces-loop-stmt-preserved t c =
       | list_pieces-then-is_simple g ↦
           let r = simple_step qs cost _ rest x l.run l.block l.out a.out.now p end is (sym c.is_simple.ensures ∙ g.if-is_simple.true) l.invariant in
           reread qs cost rest true c.if-is_simple.run l.block c.if-is_simple.block l.out c.if-is_simple.out a.out.now p end (sym g.run-is) (sym g.block-is) (sym g.out-is) r
-      | list_pieces-else-is_simple+in_ok-put+in_ok-here+in_ok-put-2+in_ok-block g ↦
-          let r = plain_step qs cost _ rest x l.run l.block g.in_ok-here.here g.in_ok-block.block l.out g.put.new.out g.put_pending.new.out g.put-else-is_simple.new.out g.stmt_pieces.new.out a.out.now p end is (sym c.is_simple.ensures ∙ g.if-is_simple.false) g.in_ok-here.ensures.block g.in_ok-block.ensures.block g.in_ok-put.ensures g.in_ok-here.ensures.pieces g.in_ok-put-2.ensures g.in_ok-block.ensures.pieces l.invariant in
-          reread qs cost rest false c.if-is_simple.run g.in_ok-block.block c.if-is_simple.block g.stmt_pieces.new.out c.if-is_simple.out a.out.now p end (sym g.run-is) (sym g.block-is) (sym g.out-is) r
+      | list_pieces-else-is_simple+in_ok-here+in_ok-block g ↦
+          let r = plain_step qs cost _ rest x l.run l.block g.in_ok-here.here g.in_ok-block.block l.out g.put_pending.new.out g.next_pieces.new.out a.out.now p end is (sym c.is_simple.ensures ∙ g.if-is_simple.false) g.in_ok-here.ensures.block g.in_ok-block.ensures.block g.in_ok-here.ensures.pieces g.in_ok-block.ensures.pieces l.invariant in
+          reread qs cost rest false c.if-is_simple.run g.in_ok-block.block c.if-is_simple.block g.next_pieces.new.out c.if-is_simple.out a.out.now p end (sym g.run-is) (sym g.block-is) (sym g.out-is) r
     ]
 
 pub list_pieces-returns-clause-block : goal.list_pieces-returns-clause-block
@@ -47,7 +47,7 @@ list_pieces-returns-clause-block t c =
     let qs = parts_above a.scope.costs.now a.scope.funcs.now in
     let cost = costs_after a.scope.costs.now a.scope.funcs.now in
     let last = at_last qs cost a.list.now l.stmt-index l.run l.block l.out a.out.now (list_part qs cost a.list.now a.at false) _ c.loop-stmt-test.false l.invariant in
-    if_ok c.put_pending-2.result _ _ (λ b h. h ∙ last.0) c.put_pending-2.ensures.block
+    if_ok c.put_last.result _ _ (λ b h. h ∙ last.0) c.put_last.ensures.block
 
 pub list_pieces-returns-clause-pieces : goal.list_pieces-returns-clause-pieces
 list_pieces-returns-clause-pieces t c =
@@ -56,7 +56,7 @@ list_pieces-returns-clause-pieces t c =
     let qs = parts_above a.scope.costs.now a.scope.funcs.now in
     let cost = costs_after a.scope.costs.now a.scope.funcs.now in
     let last = at_last qs cost a.list.now l.stmt-index l.run l.block l.out a.out.now (list_part qs cost a.list.now a.at false) _ c.loop-stmt-test.false l.invariant in
-    if_ok c.put_pending-2.result _ _ (λ b h ps. h qs ps ∙ last.1 ps) c.put_pending-2.ensures.pieces
+    if_ok c.put_last.result _ _ (λ b h ps. h qs ps ∙ last.1 ps) c.put_last.ensures.pieces
 
 -- ---- an initialiser
 

@@ -1,5 +1,5 @@
 use Rattle.ipet_rows.proofs.law.worked_rows.Goals as goal
-use Rattle.ipet_rows.proofs.Worked.{worked-two_choices, worked-call, worked-whiles, worked-dos, worked-itself, worked-once, worked-bound_of_while, worked-bound_of_choices}
+use Rattle.ipet_rows.proofs.Worked.{worked-two_choices, worked-call, worked-whiles, worked-dos, worked-itself, worked-once}
 
 pub returns-clause-two_choices : goal.returns-clause-two_choices
 returns-clause-two_choices c = worked-two_choices
@@ -18,9 +18,3 @@ returns-clause-itself c = worked-itself
 
 pub returns-clause-once : goal.returns-clause-once
 returns-clause-once c = worked-once
-
-pub returns-clause-bound_of_while : goal.returns-clause-bound_of_while
-returns-clause-bound_of_while c = worked-bound_of_while
-
-pub returns-clause-bound_of_choices : goal.returns-clause-bound_of_choices
-returns-clause-bound_of_choices c = worked-bound_of_choices

@@ -1,7 +1,7 @@
 -- The laws of `Greatest`.
-use Rattle.peak_laws.proofs.DualFits.{dual_fits_small}
+use Rattle.peak_laws.proofs.DualFits.{dual_fits}
 use Rattle.peak_laws.proofs.Greatest.{fits, bounded}
 use Rattle.peak_laws.proofs.law.part_bounds.Goals as goal
 
 pub returns : goal.returns
-returns c = record { fits = fits; value = bounded; room = dual_fits_small }
+returns c = record { fits = fits; value = bounded; room = dual_fits }

@@ -1,0 +1,34 @@
+-- The ways of a `do` are made of those of its body.
+use Rattle.std.proofs.Common.{arith, ◌≡◌, ◌≤◌, ◌+◌, ◌*◌, ◌^◌, ap, sym, ◌∙◌, subst}
+use Rattle.peak_laws.specs.Parts as spec
+use Rattle.peak_laws.specs.Magnitudes.{cap_cost}
+use Rattle.ipet_peak.specs.Trees.{part_of}
+use Rattle.ipet_peak.proofs.TreeLayers.{small_ways, keeps_at, tree-Do}
+use Rattle.ipet_peak.proofs.PushedFlows.{do_light}
+use Rattle.ipet_peak.proofs.tree.do_tree.Goals as goal
+
+pub dearest_ways-body-requires : goal.dearest_ways-body-requires
+dearest_ways-body-requires c = keeps_at _ _ c.get.ensures c.requires.a
+
+pub turn_cost-requires-clause-a : goal.turn_cost-requires-clause-a
+turn_cost-requires-clause-a c =
+    small_ways c.get.result.now _ _ c.dearest_ways-body.ensures (omega (arith, c.requires.room, ap (λ y. cap_cost (part_of y)) c.get.ensures))
+
+pub do_ways-ways-requires-clause-room : goal.do_ways-ways-requires-clause-room
+do_ways-ways-requires-clause-room c =
+    let p = part_of c.args.a in
+    let none : c.args.c ≡ c.args.c + 0 = omega arith in
+    let body = c.dearest_ways-body.ensures ∙ ap (λ y. spec.dearest_ways (part_of y)) c.get.ensures in
+    let y = c.turn_cost.ensures ∙ (λ i. spec.turn_cost ((c.from-cost.ensures ∙ none) i) (spec.back (body i))) in
+    subst (λ z. z ≤ 2 ^ 126) (sym (λ i. c.from.ensures i * y i + c.from-cost.ensures i)) (omega (arith, do_light c.args.c c.args.m p, c.requires.room))
+
+pub do_ways-ways-requires-clause-a : goal.do_ways-ways-requires-clause-a
+do_ways-ways-requires-clause-a c =
+    small_ways c.get.result.now _ _ c.dearest_ways-body.ensures (omega (arith, c.requires.room, ap (λ y. cap_cost (part_of y)) c.get.ensures))
+
+pub returns : goal.returns
+returns c =
+    let none : c.args.c ≡ c.args.c + 0 = omega arith in
+    let body = c.dearest_ways-body.ensures ∙ ap (λ y. spec.dearest_ways (part_of y)) c.get.ensures in
+    let y = c.turn_cost.ensures ∙ (λ i. spec.turn_cost ((c.from-cost.ensures ∙ none) i) (spec.back (body i))) in
+    tree-Do _ _ _ _ _ c.in_ok-new.ensures (c.do_ways-ways.ensures ∙ (λ i. spec.do_ways (c.from-cost.ensures i) (c.from.ensures i) (y i) (body i))) c.requires.a
