@@ -1,0 +1,4 @@
+pub mod Trail
+pub mod Entries
+pub mod Watching
+pub mod Marking
