@@ -48,8 +48,8 @@ sound_decided known trail starts l sound within not_true not_false =
           (omega (arith, length_push literals l));
     }
 
-pub held_decided : (cnf : Cnf) (lines : List LogLine) (trail : Trail) (starts : List ℕ) (pairs : List Pair) (lists : List (List ℕ)) (head : ℕ) (l : ℤ) → IsHeld cnf lines trail starts pairs lists head → head ≡ length trail.literals → IsWithin trail.variables l → ¬ Contains trail.literals l → ¬ Contains trail.literals (neg_ℤ l) → IsHeld cnf lines (grown trail l None) (starts ++ length trail.literals ∷ []) pairs lists head
-held_decided cnf lines trail starts pairs lists head l held done within not_true not_false =
+pub held_decided : (cnf : Cnf) (lines : List LogLine) (table : List (List ℤ)) (trail : Trail) (starts : List ℕ) (pairs : List Pair) (lists : List (List ℕ)) (head : ℕ) (l : ℤ) → IsHeld cnf lines table trail starts pairs lists head → head ≡ length trail.literals → IsWithin trail.variables l → ¬ Contains trail.literals l → ¬ Contains trail.literals (neg_ℤ l) → IsHeld cnf lines table (grown trail l None) (starts ++ length trail.literals ∷ []) pairs lists head
+held_decided cnf lines table trail starts pairs lists head l held done within not_true not_false =
     let known = clauses_of cnf lines in
     let literals = trail.literals in
     let whole : take head literals ≡ literals = take_all head literals (omega (arith, done)) in
@@ -58,6 +58,7 @@ held_decided cnf lines trail starts pairs lists head l held done within not_true
     let last : take (length literals) (literals ++ l ∷ []) ≡ literals = take_at literals (l ∷ []) (length literals) refl in
     record {
       working = held.working;
+      stored = held.stored;
       variables = held.variables;
       sound = sound_decided known trail starts l held.sound within not_true not_false;
       counted = held.counted;

@@ -2,12 +2,12 @@
 use Rattle.std.proofs.Common.{◌≡◌, ◌≢◌, ◌⊎◌, inl, inr, ⊎_elim, ℕ, zero, suc, ℤ, pos, negsuc, neg_ℤ, ◌+◌, ◌-◌, ◌^◌, ◌<◌, ◌≤◌, Bool, false, not, List, [], ◌∷◌, ◌++◌, length, map, take, get_or, unsigned_abs, Some, All, Contains, IsTrue, slice_get, refl, sym, ◌∙◌, ap, subst, arith, append-nil, add-one, length-append}
 use Rattle.std.proofs.lemmas.Bool.{cases_lt, cases_Bool}
 use Rattle.std.proofs.lemmas.List.{get_or_default, take-append-le, take_at, take_all, get_or_append_left, get_or_push, length_push}
-use Rattle.std.proofs.lemmas.List.Elements.{All-nil, All-map, All-contains, All-from_get_or, Contains-get_or, Contains-push}
+use Rattle.std.proofs.lemmas.List.Elements.{All-nil, All-map, All-push, All-contains, All-from_get_or, Contains-get_or, Contains-push}
 use Rattle.std.proofs.lemmas.List.Folds.{list_any_at}
 use Rattle.cnf_form.specs.declared.log.LogLine.{LogLine}
 use Rattle.cnf_form.specs.declared.log.Log.{Log}
 use Rattle.cnf_form.specs.declared.cnf.Cnf.{Cnf}
-use Rattle.cnf_form.specs.Literals.{NamesOnce, IsClause, AreClauses, NamesUpTo}
+use Rattle.cnf_form.specs.Literals.{IsLiteral, NamesOnce, IsClause, AreClauses, NamesUpTo}
 use Rattle.cnf_form.specs.Truth.{literal_true, clause_true, Satisfies}
 use Rattle.rup_check.specs.Follows.{Leads, Follows}
 use Rattle.rup_check.specs.Closed.{IsClosed}
@@ -93,8 +93,8 @@ loading_push cnf trail pairs lists final i clause new_pairs loading at single wi
     (inl (record { literal = l; named = named; holds = Contains-push trail.literals l }))
 
 -- all clauses are taken in
-pub held_loaded : (cnf : Cnf) (trail : Trail) (pairs : List Pair) (lists : List (List ℕ)) → IsLoading cnf trail pairs lists (length cnf.clauses) → IsHeld cnf [] trail [] pairs lists 0
-held_loaded cnf trail pairs lists loading =
+pub held_loaded : (cnf : Cnf) (table : List (List ℤ)) (trail : Trail) (pairs : List Pair) (lists : List (List ℕ)) → table ≡ cnf.clauses → IsLoading cnf trail pairs lists (length cnf.clauses) → IsHeld cnf [] table trail [] pairs lists 0
+held_loaded cnf table trail pairs lists is loading =
     let known : cnf.clauses ++ [] ≡ cnf.clauses = append-nil cnf.clauses in
     record {
       working = record {
@@ -104,6 +104,7 @@ held_loaded cnf trail pairs lists loading =
         follow = λ k h. absurd (omega (arith, h));
         teach = λ k h. absurd (omega (arith, h));
       };
+      stored = is ∙ sym known;
       variables = loading.variables;
       sound = rw known loading.sound;
       counted = loading.counted ∙ sym (ap length known);
@@ -140,6 +141,12 @@ worked_end cnf log n working count = record {
 pub line_clauses : (lines : List LogLine) → All (λ (line : LogLine). IsClause line.clause) lines → AreClauses (map (λ (line : LogLine). line.clause) lines)
 line_clauses lines each = record { each = All-map IsClause (λ (line : LogLine). line.clause) lines each }
 
+-- the empty line is one more
+pub refuted_clauses : (lines final : List LogLine) (line : LogLine) → All (λ (l : LogLine). IsClause l.clause) lines → line.clause ≡ [] → final ≡ lines ++ line ∷ [] → AreClauses (map (λ (l : LogLine). l.clause) final)
+refuted_clauses lines final line each empty is =
+    let none : IsClause [] = record { each = All-nil IsLiteral; once = λ i j d before h. absurd (omega (arith, h)) } in
+    rw is (line_clauses (lines ++ line ∷ []) (All-push (λ (l : LogLine). IsClause l.clause) lines line each (rw empty none)))
+
 -- a worked log is short
 pub working_short : (cnf : Cnf) (log : Log) (n : ℕ) → IsWorking cnf log.lines → length log.lines ≡ n → n < 3 ^ cnf.variables
 working_short cnf log n working count = worked_short cnf log n (line_clauses log.lines working.clauses) (worked_end cnf log n working count)
@@ -165,8 +172,8 @@ satisfied_all variables known pairs lists literals c counted watching total guar
     (total_literal variables literals (pair_at pairs c).one total (watching.within c no_pair (omega (arith, within, counted))).0))
     (guarded c within)
 
-pub held_satisfies : (cnf : Cnf) (lines : List LogLine) (trail : Trail) (starts : List ℕ) (pairs : List Pair) (lists : List (List ℕ)) (head : ℕ) (values : List Bool) → IsHeld cnf lines trail starts pairs lists head → head ≡ length trail.literals → IsTotal cnf.variables trail.literals → Assigns cnf.variables trail.literals values → Satisfies values cnf.clauses
-held_satisfies cnf lines trail starts pairs lists head values held done total assigns =
+pub held_satisfies : (cnf : Cnf) (lines : List LogLine) (table : List (List ℤ)) (trail : Trail) (starts : List ℕ) (pairs : List Pair) (lists : List (List ℕ)) (head : ℕ) (values : List Bool) → IsHeld cnf lines table trail starts pairs lists head → head ≡ length trail.literals → IsTotal cnf.variables trail.literals → Assigns cnf.variables trail.literals values → Satisfies values cnf.clauses
+held_satisfies cnf lines table trail starts pairs lists head values held done total assigns =
     let names : LogLine → List ℤ = λ line. line.clause in
     let known = clauses_of cnf lines in
     let literals = trail.literals in

@@ -5,7 +5,7 @@ use Rattle.std.proofs.lemmas.List.{drop_more, get_or_default}
 use Rattle.std.proofs.lemmas.List.Elements.{All-contains, All-from_get_or, Contains-append_left, Contains-push_cases, Contains-append_cases}
 use Rattle.cnf_form.specs.Literals.{NamesOnce}
 use Rattle.rup_check.specs.Follows.{IsFalse}
-use Rattle.rup_check.specs.Closed.{Propagates, IsClosed}
+use Rattle.rup_check.specs.Closed.{IsPropagated, IsClosed}
 use Rattle.rup_check.specs.Trail.{IsWithin}
 use Rattle.rup_check.proofs.Cases.{int_cases}
 use Rattle.rup_check.proofs.Values.{unsigned_abs-neg, not_own_negation}
@@ -19,10 +19,10 @@ use Rattle.search_tables.proofs.Entering.{pair_set, pair_set_here, proper_set}
 
 -- ---- from guarded to closed
 
-guarded_clause : (clause : List ℤ) (pair : Pair) (made : List ℤ) → ((l : ℤ) → Contains made l → ¬ Contains made (neg_ℤ l)) → IsGuarded clause pair made made → (¬ IsFalse made clause) × Propagates made clause
+guarded_clause : (clause : List ℤ) (pair : Pair) (made : List ℤ) → ((l : ℤ) → Contains made l → ¬ Contains made (neg_ℤ l)) → IsGuarded clause pair made made → (¬ IsFalse made clause) × IsPropagated made clause
 guarded_clause clause pair made consistent guarded = ⊎_elim satisfied watched guarded
   where
-    satisfied : IsSatisfied made clause → (¬ IsFalse made clause) × Propagates made clause
+    satisfied : IsSatisfied made clause → (¬ IsFalse made clause) × IsPropagated made clause
     satisfied is = (
       λ all. consistent is.literal is.holds (All-contains (λ l. Contains made (neg_ℤ l)) clause is.literal all is.named),
       λ l named others. ⊎_elim
@@ -31,7 +31,7 @@ guarded_clause clause pair made consistent guarded = ⊎_elim satisfied watched 
           (int_cases is.literal l),
     )
 
-    watched : IsWatched clause pair made made → (¬ IsFalse made clause) × Propagates made clause
+    watched : IsWatched clause pair made made → (¬ IsFalse made clause) × IsPropagated made clause
     watched is = (
       λ all. (satisfied (is.one (All-contains (λ l. Contains made (neg_ℤ l)) clause pair.one all is.one_named))).0 all,
       λ l named others. ⊎_elim
@@ -53,7 +53,7 @@ pub closed_from_guarded : (known : List (List ℤ)) (pairs : List Pair) (made : 
 closed_from_guarded known pairs made consistent guarded = record {
   consistent = consistent;
   none_false = All-from_get_or (λ c. ¬ IsFalse made c) known [] (λ c within. (guarded_clause (clause_of known c) (pair_at pairs c) made consistent (guarded c within)).0);
-  propagated = All-from_get_or (Propagates made) known [] (λ c within. (guarded_clause (clause_of known c) (pair_at pairs c) made consistent (guarded c within)).1);
+  propagated = All-from_get_or (IsPropagated made) known [] (λ c within. (guarded_clause (clause_of known c) (pair_at pairs c) made consistent (guarded c within)).1);
 }
 
 -- ---- one literal more

@@ -1,5 +1,5 @@
 -- A search learns a clause, and goes back to the level at which it is unit.
-use Rattle.std.proofs.Common.{◌≡◌, inl, inr, ⊎_elim, ℕ, ℤ, pos, neg_ℤ, ◌+◌, ◌-◌, ◌<◌, ◌≤◌, List, [], ◌∷◌, ◌++◌, length, map, take, get_or, unsigned_abs, Some, All, AllPairs, Contains, slice_get, sym, ◌∙◌, ap, subst, arith}
+use Rattle.std.proofs.Common.{◌≡◌, inl, inr, ⊎_elim, ℕ, ℤ, pos, neg_ℤ, ◌+◌, ◌-◌, ◌<◌, ◌≤◌, List, [], ◌∷◌, ◌++◌, length, map, take, get_or, unsigned_abs, Some, All, AllPairs, Contains, slice_get, refl, sym, ◌∙◌, ap, subst, arith}
 use Rattle.std.proofs.lemmas.Bool.{cases_lt, cases_eq}
 use Rattle.std.proofs.lemmas.List.{length-append, length-map, get_or_default, take-append-le, take_at, take-take, get_or-take, length-take-le, get_or_append_left, get_or_push, length_push}
 use Rattle.std.proofs.lemmas.List.Elements.{All-contains, Contains-get_or, Contains-push}
@@ -40,8 +40,8 @@ guarded_with known clause pairs pair done made counted guarded new c within = �
     (cases_lt c (length known))
 
 -- where a search stands before it learns
-pub record Learns (cnf : Cnf) (lines : List LogLine) (trail : Trail) (starts : List ℕ) (pairs : List Pair) (lists : List (List ℕ)) (head : ℕ) (line : LogLine) (places : List ℕ) (back : ℕ) : Type 0 where
-  pub held : IsHeld cnf lines trail starts pairs lists head
+pub record Learns (cnf : Cnf) (lines : List LogLine) (table : List (List ℤ)) (trail : Trail) (starts : List ℕ) (pairs : List Pair) (lists : List (List ℕ)) (head : ℕ) (line : LogLine) (places : List ℕ) (back : ℕ) : Type 0 where
+  pub held : IsHeld cnf lines table trail starts pairs lists head
   pub few : length lines < most
   pub listed : IsOfPlaces trail.literals 0 line.clause places
   pub asserting : IsAsserting (last_start starts) places
@@ -55,13 +55,13 @@ last_behind starts back rising there = ⊎_elim
     (cases_eq back (length starts - 1))
 
 -- the first literal was made true at the last level
-pub first_behind : (cnf : Cnf) (lines : List LogLine) (trail : Trail) (starts : List ℕ) (pairs : List Pair) (lists : List (List ℕ)) (head : ℕ) (line : LogLine) (places : List ℕ) (back : ℕ) → Learns cnf lines trail starts pairs lists head line places back → get_or starts back 0 ≤ get_or places 0 0
-first_behind cnf lines trail starts pairs lists head line places back learns =
+pub first_behind : (cnf : Cnf) (lines : List LogLine) (table : List (List ℤ)) (trail : Trail) (starts : List ℕ) (pairs : List Pair) (lists : List (List ℕ)) (head : ℕ) (line : LogLine) (places : List ℕ) (back : ℕ) → Learns cnf lines table trail starts pairs lists head line places back → get_or starts back 0 ≤ get_or places 0 0
+first_behind cnf lines table trail starts pairs lists head line places back learns =
     omega (arith, learns.asserting.first, last_behind starts back learns.held.sound.rising learns.goes.there)
 
 -- the level that it goes back to is closed, and the clause teaches
-learned_teaches : (cnf : Cnf) (lines : List LogLine) (trail : Trail) (starts : List ℕ) (pairs : List Pair) (lists : List (List ℕ)) (head : ℕ) (line : LogLine) (places : List ℕ) (back : ℕ) → Learns cnf lines trail starts pairs lists head line places back → Teaches (clauses_of cnf lines) line.clause
-learned_teaches cnf lines trail starts pairs lists head line places back learns =
+learned_teaches : (cnf : Cnf) (lines : List LogLine) (table : List (List ℤ)) (trail : Trail) (starts : List ℕ) (pairs : List Pair) (lists : List (List ℕ)) (head : ℕ) (line : LogLine) (places : List ℕ) (back : ℕ) → Learns cnf lines table trail starts pairs lists head line places back → Teaches (clauses_of cnf lines) line.clause
+learned_teaches cnf lines table trail starts pairs lists head line places back learns =
     let sound = learns.held.sound in
     let left = cut_sound in
     record {
@@ -70,14 +70,14 @@ learned_teaches cnf lines trail starts pairs lists head line places back learns 
           (apart_consistent trail.variables (take (get_or starts back 0) trail.literals) left.apart left.within)
           (learns.held.levels back 0 learns.goes.there);
       left = get_or line.clause 0 (pos 0);
-      unit = learned_unit trail.literals starts line.clause places back sound.apart learns.listed learns.asserting.some (first_behind cnf lines trail starts pairs lists head line places back learns) learns.goes;
+      unit = learned_unit trail.literals starts line.clause places back sound.apart learns.listed learns.asserting.some (first_behind cnf lines table trail starts pairs lists head line places back learns) learns.goes;
     }
   where
     cut_sound : IsSound (clauses_of cnf lines) (cut trail (get_or starts back 0)) (take back starts)
     cut_sound = sound_cut (clauses_of cnf lines) trail starts back learns.goes.there learns.held.sound
 
-learned_follows : (cnf : Cnf) (lines : List LogLine) (trail : Trail) (starts : List ℕ) (pairs : List Pair) (lists : List (List ℕ)) (head : ℕ) (line : LogLine) (places : List ℕ) (back : ℕ) → Learns cnf lines trail starts pairs lists head line places back → Follows cnf.variables (clauses_of cnf lines) line
-learned_follows cnf lines trail starts pairs lists head line places back learns =
+learned_follows : (cnf : Cnf) (lines : List LogLine) (table : List (List ℤ)) (trail : Trail) (starts : List ℕ) (pairs : List Pair) (lists : List (List ℕ)) (head : ℕ) (line : LogLine) (places : List ℕ) (back : ℕ) → Learns cnf lines table trail starts pairs lists head line places back → Follows cnf.variables (clauses_of cnf lines) line
+learned_follows cnf lines table trail starts pairs lists head line places back learns =
     let sound = learns.held.sound in
     let few : trail.variables ≤ most = omega (arith, learns.held.variables, cnf.few_variables) in
     let both = learned_clause trail.variables trail.literals line.clause places few sound.apart sound.within learns.listed in
@@ -87,8 +87,8 @@ learned_follows cnf lines trail starts pairs lists head line places back learns 
     }
 
 -- at the end of an earlier level, the learned clause has two literals that are open
-learned_watched : (cnf : Cnf) (lines : List LogLine) (trail : Trail) (starts : List ℕ) (pairs : List Pair) (lists : List (List ℕ)) (head : ℕ) (line : LogLine) (places : List ℕ) (back j : ℕ) (pair : Pair) → Learns cnf lines trail starts pairs lists head line places back → IsPairOf line.clause pair → j < back → IsWatched line.clause pair (take (get_or starts j 0) trail.literals) (take (get_or starts j 0) trail.literals)
-learned_watched cnf lines trail starts pairs lists head line places back j pair learns is before =
+learned_watched : (cnf : Cnf) (lines : List LogLine) (table : List (List ℤ)) (trail : Trail) (starts : List ℕ) (pairs : List Pair) (lists : List (List ℕ)) (head : ℕ) (line : LogLine) (places : List ℕ) (back j : ℕ) (pair : Pair) → Learns cnf lines table trail starts pairs lists head line places back → IsPairOf line.clause pair → j < back → IsWatched line.clause pair (take (get_or starts j 0) trail.literals) (take (get_or starts j 0) trail.literals)
+learned_watched cnf lines table trail starts pairs lists head line places back j pair learns is before =
     let literals = trail.literals in
     let clause = line.clause in
     let s = get_or starts j 0 in
@@ -104,7 +104,7 @@ learned_watched cnf lines trail starts pairs lists head line places back j pair 
     let inside_too = learns.listed.inside 1 0 tight.0 in
     let falls = learns.listed.falling 0 1 0 (omega arith) tight.0 in
     let early : s ≤ get_or starts (back - 1) 0 = early_start in
-    let first_one = first_behind cnf lines trail starts pairs lists head line places back learns in
+    let first_one = first_behind cnf lines table trail starts pairs lists head line places back learns in
     record {
       differ = λ same. omega (arith, falls, same_place q r inside inside_too (sym one ∙ same ∙ other));
       one_named = subst (Contains clause) (sym is.one) (Contains-get_or clause 0 (pos 0) (omega (arith, two)));
@@ -124,8 +124,8 @@ learned_watched cnf lines trail starts pairs lists head line places back j pair 
         (sym (unsigned_abs-neg (literal_at trail.literals q)) ∙ ap unsigned_abs same ∙ unsigned_abs-neg (literal_at trail.literals r))
 
 -- what the search keeps, with the clause
-pub held_learned : (cnf : Cnf) (lines : List LogLine) (trail : Trail) (starts : List ℕ) (pairs : List Pair) (lists final : List (List ℕ)) (head : ℕ) (line : LogLine) (places : List ℕ) (back : ℕ) (pair : Pair) → Learns cnf lines trail starts pairs lists head line places back → IsPairOf line.clause pair → IsWatching cnf.variables (pairs ++ pair ∷ []) final → IsHeld cnf (lines ++ line ∷ []) (grown (cut trail (get_or starts back 0)) (get_or line.clause 0 (pos 0)) (Some (length (clauses_of cnf lines)))) (take back starts) (pairs ++ pair ∷ []) final (get_or starts back 0)
-held_learned cnf lines trail starts pairs lists final head line places back pair learns is watching =
+pub held_learned : (cnf : Cnf) (lines : List LogLine) (table : List (List ℤ)) (trail : Trail) (starts : List ℕ) (pairs : List Pair) (lists final : List (List ℕ)) (head : ℕ) (line : LogLine) (places : List ℕ) (back : ℕ) (pair : Pair) → Learns cnf lines table trail starts pairs lists head line places back → IsPairOf line.clause pair → IsWatching cnf.variables (pairs ++ pair ∷ []) final → IsHeld cnf (lines ++ line ∷ []) (table ++ line.clause ∷ []) (grown (cut trail (get_or starts back 0)) (get_or line.clause 0 (pos 0)) (Some (length (clauses_of cnf lines)))) (take back starts) (pairs ++ pair ∷ []) final (get_or starts back 0)
+held_learned cnf lines table trail starts pairs lists final head line places back pair learns is watching =
     let known = clauses_of cnf lines in
     let clause = line.clause in
     let literals = trail.literals in
@@ -136,12 +136,13 @@ held_learned cnf lines trail starts pairs lists final head line places back pair
     let inside : start < length literals = held.sound.below back 0 learns.goes.there in
     let short : length (take start literals) ≡ start = length-take-le start literals (omega arith) in
     let fewer : length (take back starts) ≡ back = length-take-le back starts (omega (arith, learns.goes.there)) in
-    let unit = learned_unit literals starts clause places back held.sound.apart learns.listed learns.asserting.some (first_behind cnf lines trail starts pairs lists head line places back learns) learns.goes in
+    let unit = learned_unit literals starts clause places back held.sound.apart learns.listed learns.asserting.some (first_behind cnf lines table trail starts pairs lists head line places back learns) learns.goes in
     let few : trail.variables ≤ most = omega (arith, held.variables, cnf.few_variables) in
     let both = learned_clause trail.variables literals clause places few held.sound.apart held.sound.within learns.listed in
     let sound = sound_implied (known ++ clause ∷ []) (cut trail start) (take back starts) l (length known) clause (sound_known known clause (cut trail start) (take back starts) (sound_cut known trail starts back learns.goes.there held.sound)) (newly_known known clause) unit.named unit.others (All-contains (IsWithin trail.variables) clause l both.1 unit.named) unit.not_true unit.not_false in
     record {
-      working = IsWorking-push cnf lines line learns.few held.working both.0 (learned_follows cnf lines trail starts pairs lists head line places back learns) (learned_teaches cnf lines trail starts pairs lists head line places back learns);
+      working = IsWorking-push cnf lines line learns.few held.working both.0 (learned_follows cnf lines table trail starts pairs lists head line places back learns) (learned_teaches cnf lines table trail starts pairs lists head line places back learns);
+      stored = rw (more, held.stored) refl;
       variables = held.variables;
       sound = rw more sound;
       counted = length_push pairs pair ∙ ap (λ n. n + 1) held.counted ∙ sym (length_push known clause) ∙ sym (ap length more);
@@ -152,7 +153,7 @@ held_learned cnf lines trail starts pairs lists final head line places back pair
           let less = held.sound.rising j back 0 before learns.goes.there in
           let front : take (get_or starts j 0) (take start literals ++ l ∷ []) ≡ take (get_or starts j 0) literals = take-append-le (get_or starts j 0) (take start literals) (l ∷ []) (omega (arith, short, less)) ∙ take-take (get_or starts j 0) start literals (omega (arith, less)) in
           rw (more, at, front)
-          (guarded_with known clause pairs pair (take (get_or starts j 0) literals) (take (get_or starts j 0) literals) held.counted (held.levels j 0 (omega (arith, before, learns.goes.there))) (inr (learned_watched cnf lines trail starts pairs lists head line places back j pair learns is before)));
+          (guarded_with known clause pairs pair (take (get_or starts j 0) literals) (take (get_or starts j 0) literals) held.counted (held.levels j 0 (omega (arith, before, learns.goes.there))) (inr (learned_watched cnf lines table trail starts pairs lists head line places back j pair learns is before)));
       reached = omega (arith, short, length_push (take start literals) l);
       guarded =
           let front : take start (take start literals ++ l ∷ []) ≡ take start literals = take_at (take start literals) (l ∷ []) start short in
@@ -163,9 +164,9 @@ held_learned cnf lines trail starts pairs lists final head line places back pair
     }
 
 -- the same, as the search does it
-pub adopted : (cnf : Cnf) (lines more_lines : List LogLine) (trail new_trail : Trail) (starts new_starts : List ℕ) (pairs new_pairs : List Pair) (lists final : List (List ℕ)) (head start number back : ℕ) (line : LogLine) (literals : List ℤ) (hints : List ℕ) (l : ℤ) → IsHeld cnf lines trail starts pairs lists head → length lines < most → (learned : IsLearned (clauses_of cnf lines) trail.literals (last_start starts) literals hints) → GoesBack starts learned.places back → line.clause ≡ literals → line.hints ≡ hints → WatchesMore cnf.variables literals pairs new_pairs final → more_lines ≡ lines ++ line ∷ [] → new_starts ≡ take back starts → new_trail ≡ grown (cut trail start) l (Some number) → start ≡ get_or starts back 0 → l ≡ get_or literals 0 (pos 0) → number ≡ length (clauses_of cnf lines) → IsHeld cnf more_lines new_trail new_starts new_pairs final start
-adopted cnf lines more_lines trail new_trail starts new_starts pairs new_pairs lists final head start number back line literals hints l held few learned goes clause_is hints_is watches lines_is starts_is trail_is start_is l_is number_is =
-    let learns : Learns cnf lines trail starts pairs lists head line learned.places back = record {
+pub adopted : (cnf : Cnf) (lines more_lines : List LogLine) (table new_table : List (List ℤ)) (trail new_trail : Trail) (starts new_starts : List ℕ) (pairs new_pairs : List Pair) (lists final : List (List ℕ)) (head start number back : ℕ) (line : LogLine) (literals : List ℤ) (hints : List ℕ) (l : ℤ) → IsHeld cnf lines table trail starts pairs lists head → length lines < most → (learned : IsLearned (clauses_of cnf lines) trail.literals (last_start starts) literals hints) → GoesBack starts learned.places back → line.clause ≡ literals → line.hints ≡ hints → WatchesMore cnf.variables literals pairs new_pairs final → more_lines ≡ lines ++ line ∷ [] → new_starts ≡ take back starts → new_trail ≡ grown (cut trail start) l (Some number) → new_table ≡ table ++ literals ∷ [] → start ≡ get_or starts back 0 → l ≡ get_or literals 0 (pos 0) → number ≡ length (clauses_of cnf lines) → IsHeld cnf more_lines new_table new_trail new_starts new_pairs final start
+adopted cnf lines more_lines table new_table trail new_trail starts new_starts pairs new_pairs lists final head start number back line literals hints l held few learned goes clause_is hints_is watches lines_is starts_is trail_is table_is start_is l_is number_is =
+    let learns : Learns cnf lines table trail starts pairs lists head line learned.places back = record {
       held = held;
       few = few;
       listed = rw clause_is learned.listed;
@@ -175,8 +176,8 @@ adopted cnf lines more_lines trail new_trail starts new_starts pairs new_pairs l
     } in
     let pair_is : IsPairOf line.clause watches.pair = rw clause_is watches.is in
     let watching : IsWatching cnf.variables (pairs ++ watches.pair ∷ []) final = subst (λ ps. IsWatching cnf.variables ps final) watches.pushed watches.watching in
-    rw (lines_is, starts_is, trail_is, watches.pushed, l_is, number_is, start_is, ← clause_is)
-    (held_learned cnf lines trail starts pairs lists final head line learned.places back watches.pair learns pair_is watching)
+    rw (lines_is, starts_is, trail_is, table_is, watches.pushed, l_is, number_is, start_is, ← clause_is)
+    (held_learned cnf lines table trail starts pairs lists final head line learned.places back watches.pair learns pair_is watching)
 
 -- its first literal is open at that level
 pub adopted_unit : (known : List (List ℤ)) (trail : Trail) (starts : List ℕ) (back : ℕ) (literals : List ℤ) (hints : List ℕ) → NamesOnce trail.literals → (learned : IsLearned known trail.literals (last_start starts) literals hints) → AllPairs (λ one other. one < other) starts → GoesBack starts learned.places back → IsUnit (take (get_or starts back 0) trail.literals) literals (get_or literals 0 (pos 0))
@@ -189,8 +190,8 @@ adopted_clause cnf known trail from literals hints same apart within learned =
     (both.0, subst (λ v. All (IsWithin v) literals) same both.1)
 
 -- a clause that is false at the last level is not false before it
-pub conflict_new : (cnf : Cnf) (lines : List LogLine) (trail : Trail) (starts : List ℕ) (pairs : List Pair) (lists : List (List ℕ)) (head number : ℕ) → IsHeld cnf lines trail starts pairs lists head → 0 < length starts → IsKnownAnd (clauses_of cnf lines) number (λ clause. IsFalse trail.literals clause) → IsKnownAnd (clauses_of cnf lines) number (λ clause. IsFalse trail.literals clause × (¬ IsFalse (take (last_start starts) trail.literals) clause))
-conflict_new cnf lines trail starts pairs lists head number held some conflict =
+pub conflict_new : (cnf : Cnf) (lines : List LogLine) (table : List (List ℤ)) (trail : Trail) (starts : List ℕ) (pairs : List Pair) (lists : List (List ℕ)) (head number : ℕ) → IsHeld cnf lines table trail starts pairs lists head → 0 < length starts → IsKnownAnd (clauses_of cnf lines) number (λ clause. IsFalse trail.literals clause) → IsKnownAnd (clauses_of cnf lines) number (λ clause. IsFalse trail.literals clause × (¬ IsFalse (take (last_start starts) trail.literals) clause))
+conflict_new cnf lines table trail starts pairs lists head number held some conflict =
     let known = clauses_of cnf lines in
     let at = found_clause known number (λ clause. IsFalse trail.literals clause) conflict in
     let k = length starts - 1 in

@@ -10,3 +10,4 @@ pub mod Learning
 pub mod Restarting
 pub mod Deciding
 pub mod Ending
+pub mod Knowing

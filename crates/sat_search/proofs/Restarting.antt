@@ -9,14 +9,15 @@ use Rattle.search_tables.specs.Trail.{Trail}
 use Rattle.sat_search.specs.Held.{IsHeld}
 use Rattle.sat_search.proofs.Backjump.{cut, sound_cut}
 
-pub held_restarted : (cnf : Cnf) (lines : List LogLine) (trail : Trail) (starts : List ℕ) (pairs : List Pair) (lists : List (List ℕ)) (head start : ℕ) → IsHeld cnf lines trail starts pairs lists head → 0 < length starts → start ≡ get_or starts 0 0 → IsHeld cnf lines (cut trail start) [] pairs lists start
-held_restarted cnf lines trail starts pairs lists head start held some is =
+pub held_restarted : (cnf : Cnf) (lines : List LogLine) (table : List (List ℤ)) (trail : Trail) (starts : List ℕ) (pairs : List Pair) (lists : List (List ℕ)) (head start : ℕ) → IsHeld cnf lines table trail starts pairs lists head → 0 < length starts → start ≡ get_or starts 0 0 → IsHeld cnf lines table (cut trail start) [] pairs lists start
+held_restarted cnf lines table trail starts pairs lists head start held some is =
     let known = clauses_of cnf lines in
     let first = get_or starts 0 0 in
     let inside : first < length trail.literals = held.sound.below 0 0 some in
     let short = length-take-le first trail.literals (omega (arith, inside)) in
     rw is (record {
       working = held.working;
+      stored = held.stored;
       variables = held.variables;
       sound = sound_cut known trail starts 0 some held.sound;
       counted = held.counted;

@@ -46,7 +46,7 @@ visited_true cnf s falsified at number other held visited inside holds passing =
 -- the entry that is visited
 pub visited : (cnf : Cnf) (s : Search) (falsified : ℤ) (at number : ℕ) (other : ℤ) → Holds cnf s → s.head < length s.trail.literals → falsified ≡ neg_ℤ (literal_at s.trail.literals s.head) → at < length (watchers s falsified) → number ≡ get_or (watchers s falsified) at 0 → (other ≡ (pair_at s.watches.pairs.items number).one) ⊎ (other ≡ (pair_at s.watches.pairs.items number).other) → ((pair_at s.watches.pairs.items number).one ≢ (pair_at s.watches.pairs.items number).other → other ≢ falsified) → IsVisited cnf s falsified at number other
 visited cnf s falsified at number other held head is inside entry stays away =
-    let proper = entry_known cnf s.lines.items s.trail s.starts.items s.watches.pairs.items s.watches.lists.items s.head at number falsified other held inside entry in
+    let proper = entry_known cnf s.lines.items s.known s.trail s.starts.items s.watches.pairs.items s.watches.lists.items s.head at number falsified other held inside entry in
     record {
       entry = entry;
       known = omega (arith, proper.there, held.counted);

@@ -29,11 +29,12 @@ taken_in : (literals : List ℤ) (i : ℕ) (m : ℤ) → Contains (take i litera
 taken_in literals i m here = let at = taken_place literals i m here in subst (Contains literals) at.3 (Contains-get_or literals at.0 (pos 0) at.2)
 
 -- a watch moves
-pub held_moved : (cnf : Cnf) (lines : List LogLine) (trail : Trail) (starts : List ℕ) (pairs : List Pair) (lists final : List (List ℕ)) (head n : ℕ) (falsified : ℤ) (pair : Pair) → IsHeld cnf lines trail starts pairs lists head → IsChange pairs n falsified pair → Contains (clause_of (clauses_of cnf lines) n) pair.one → ¬ Contains trail.literals (neg_ℤ pair.one) → IsWatching cnf.variables (set pairs n pair) final → IsHeld cnf lines trail starts (set pairs n pair) final head
-held_moved cnf lines trail starts pairs lists final head n falsified pair held change named free watching =
+pub held_moved : (cnf : Cnf) (lines : List LogLine) (table : List (List ℤ)) (trail : Trail) (starts : List ℕ) (pairs : List Pair) (lists final : List (List ℕ)) (head n : ℕ) (falsified : ℤ) (pair : Pair) → IsHeld cnf lines table trail starts pairs lists head → IsChange pairs n falsified pair → Contains (clause_of (clauses_of cnf lines) n) pair.one → ¬ Contains trail.literals (neg_ℤ pair.one) → IsWatching cnf.variables (set pairs n pair) final → IsHeld cnf lines table trail starts (set pairs n pair) final head
+held_moved cnf lines table trail starts pairs lists final head n falsified pair held change named free watching =
     let known = clauses_of cnf lines in
     record {
       working = held.working;
+      stored = held.stored;
       variables = held.variables;
       sound = held.sound;
       counted = length-set pairs n pair ∙ held.counted;
@@ -88,12 +89,13 @@ levels_grown known pairs literals l starts below levels k d within =
     let same : take s (literals ++ l ∷ []) ≡ take s literals = take-append-le s literals (l ∷ []) (omega arith) in
     rw same (levels k d within)
 
-pub held_implied : (cnf : Cnf) (lines : List LogLine) (trail : Trail) (starts : List ℕ) (pairs : List Pair) (lists : List (List ℕ)) (head : ℕ) (l : ℤ) (number : ℕ) (clause : List ℤ) → IsHeld cnf lines trail starts pairs lists head → slice_get (clauses_of cnf lines) number ≡ Some clause → Contains clause l → All (λ m. m ≢ l → Contains trail.literals (neg_ℤ m)) clause → IsWithin trail.variables l → ¬ Contains trail.literals l → ¬ Contains trail.literals (neg_ℤ l) → IsHeld cnf lines (grown trail l (Some number)) starts pairs lists head
-held_implied cnf lines trail starts pairs lists head l number clause held at named others within not_true not_false =
+pub held_implied : (cnf : Cnf) (lines : List LogLine) (table : List (List ℤ)) (trail : Trail) (starts : List ℕ) (pairs : List Pair) (lists : List (List ℕ)) (head : ℕ) (l : ℤ) (number : ℕ) (clause : List ℤ) → IsHeld cnf lines table trail starts pairs lists head → slice_get (clauses_of cnf lines) number ≡ Some clause → Contains clause l → All (λ m. m ≢ l → Contains trail.literals (neg_ℤ m)) clause → IsWithin trail.variables l → ¬ Contains trail.literals l → ¬ Contains trail.literals (neg_ℤ l) → IsHeld cnf lines table (grown trail l (Some number)) starts pairs lists head
+held_implied cnf lines table trail starts pairs lists head l number clause held at named others within not_true not_false =
     let known = clauses_of cnf lines in
     let same : take head (trail.literals ++ l ∷ []) ≡ take head trail.literals = take-append-le head trail.literals (l ∷ []) held.reached in
     record {
       working = held.working;
+      stored = held.stored;
       variables = held.variables;
       sound = sound_implied known trail starts l number clause held.sound at named others within not_true not_false;
       counted = held.counted;
@@ -155,8 +157,8 @@ conflict_known known made number other unit is_false =
     subst (λ o. IsSomeAnd o (λ clause. IsFalse made clause)) (sym at.1) (visit_false at.0 made other at.2.1 is_false)
 
 -- what is known of an entry of a list
-pub entry_known : (cnf : Cnf) (lines : List LogLine) (trail : Trail) (starts : List ℕ) (pairs : List Pair) (lists : List (List ℕ)) (head i n : ℕ) (falsified other : ℤ) → IsHeld cnf lines trail starts pairs lists head → i < length (list_of lists falsified) → n ≡ get_or (list_of lists falsified) i 0 → IsProper pairs n
-entry_known cnf lines trail starts pairs lists head i n falsified other held inside is =
+pub entry_known : (cnf : Cnf) (lines : List LogLine) (table : List (List ℤ)) (trail : Trail) (starts : List ℕ) (pairs : List Pair) (lists : List (List ℕ)) (head i n : ℕ) (falsified other : ℤ) → IsHeld cnf lines table trail starts pairs lists head → i < length (list_of lists falsified) → n ≡ get_or (list_of lists falsified) i 0 → IsProper pairs n
+entry_known cnf lines table trail starts pairs lists head i n falsified other held inside is =
     held.watching.entries (spot_of falsified) n (subst (Contains (list_of lists falsified)) (sym is) (Contains-get_or (list_of lists falsified) i 0 inside))
 
 pub other_within : (variables : ℕ) (pairs : List Pair) (lists : List (List ℕ)) (n : ℕ) (other : ℤ) → IsWatching variables pairs lists → IsProper pairs n → (other ≡ (pair_at pairs n).one) ⊎ (other ≡ (pair_at pairs n).other) → IsWithin variables other

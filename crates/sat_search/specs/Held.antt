@@ -1,5 +1,5 @@
 -- What a search keeps.
-use Rattle.std.specs.Prelude.{◌≡◌, ℕ, ◌≤◌, List, length, take, All}
+use Rattle.std.specs.Prelude.{◌≡◌, ℕ, ◌≤◌, ℤ, List, length, take, All}
 use Rattle.cnf_form.specs.declared.log.LogLine.{LogLine}
 use Rattle.cnf_form.specs.declared.cnf.Cnf.{Cnf}
 use Rattle.rup_check.specs.Accepted.{clauses_of}
@@ -10,11 +10,12 @@ use Rattle.search_tables.specs.Watching.{IsWatching}
 use Rattle.sat_search.specs.Guarded.{AreGuarded}
 use Rattle.sat_search.specs.Working.{IsWorking}
 
--- the lines are worked; each literal of the trail is a decision or has a reason; the clauses are watched, so that what was
+-- the lines are worked; the table has the clauses that are known; each literal of the trail is a decision or has a reason; the clauses are watched, so that what was
 -- true at the end of each level before the last is closed; and of the literals of the trail the first ones, up to `head`,
 -- were propagated
-pub record IsHeld (cnf : Cnf) (lines : List LogLine) (trail : Trail) (starts : List ℕ) (pairs : List Pair) (lists : List (List ℕ)) (head : ℕ) : Type 0 where
+pub record IsHeld (cnf : Cnf) (lines : List LogLine) (table : List (List ℤ)) (trail : Trail) (starts : List ℕ) (pairs : List Pair) (lists : List (List ℕ)) (head : ℕ) : Type 0 where
   pub working : IsWorking cnf lines
+  pub stored : table ≡ clauses_of cnf lines
   pub variables : trail.variables ≡ cnf.variables
   pub sound : IsSound (clauses_of cnf lines) trail starts
   pub counted : length pairs ≡ length (clauses_of cnf lines)

@@ -16,7 +16,7 @@ use Rattle.sat_search.specs.Guarded.{IsPassing}
 use Rattle.sat_search.specs.Held.{IsHeld}
 
 abbrev pub Holds : Cnf → Search → Type 0
-Holds cnf s = IsHeld cnf s.lines.items s.trail s.starts.items s.watches.pairs.items s.watches.lists.items s.head
+Holds cnf s = IsHeld cnf s.lines.items s.known s.trail s.starts.items s.watches.pairs.items s.watches.lists.items s.head
 
 abbrev pub known_by : Cnf → Search → List (List ℤ)
 known_by cnf s = clauses_of cnf s.lines.items

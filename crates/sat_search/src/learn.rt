@@ -31,9 +31,9 @@ impl Search {
     {
         let learned = analyze(
             alloc,
-            cnf,
-            self.lines.as_slice(),
+            &self.known,
             &self.trail,
+            cnf.variables,
             self.starts.as_slice(),
             conflict,
         )?;
@@ -75,6 +75,7 @@ impl Search {
         let literal = learned.literals[0];
         self.watches
             .add_clause(cnf.variables, learned.literals.as_slice())?;
+        self.known.push(learned.literals.as_slice())?;
         let clause = Clause::of_clause(alloc, learned.literals.as_slice())?;
         self.lines.push(LogLine::new(clause, learned.hints))?;
         let start = self.starts[back];

@@ -66,7 +66,7 @@ impl Search {
         ensures extends { OnOk result (Extends self.old self.new) }
         ensures says { IfOk result (λ visit. VisitSays cnf.now self.old self.new falsified at visit) }
     {
-        let clause = known_clause(cnf, self.lines.as_slice(), number);
+        let clause = known_clause(&self.known, &self.trail, number);
         match free_literal(&self.trail, clause, other) {
             Some(free) => {
                 let pair = Pair { one: free, other };

@@ -6,15 +6,17 @@ ghost use Rattle.rup_check.specs.Trail.{IsWithin};
 ghost use Rattle.rup_check.specs.Follows.{IsMade};
 ghost use Rattle.sat_search.specs.Totals.{IsTotal};
 
+use crate::known::formula_clauses;
 use cnf_form::{Cnf, LogLine};
-use search_tables::{Order, Trail, Watches};
+use search_tables::{Clauses, Order, Trail, Watches};
 use std::alloc::{AllocError, Global};
 
-/// The learned lines; the literals that are true; where each level begins, with its decision; the watched literals; and
+/// The learned lines; all clauses that are known; the literals that are true; where each level begins, with its decision; the watched literals; and
 /// how many of the true literals were propagated. Which variables to decide first is a matter of speed alone.
 #[derive(Drop)]
 pub(crate) struct Search {
     pub lines: Vec<LogLine>,
+    pub known: Clauses,
     pub trail: Trail,
     pub starts: Vec<usize>,
     pub watches: Watches,
@@ -27,23 +29,24 @@ impl Search {
     ghost use Rattle.sat_search.specs.Loading.{IsLoading, IsRefuted};
     ghost use Rattle.sat_search.specs.Visits.{Holds, IsConflict};
 
-    /// Nothing is known yet.
-    pub(crate) fn new(alloc: Global, variables: u32) -> Result<Search, AllocError>
-        requires { variables ≤ most }
+    /// The clauses of the formula are known, and none is watched yet.
+    pub(crate) fn new(alloc: Global, cnf: &Cnf) -> Result<Search, AllocError>
         ensures lines { IfOk result (λ s. s.lines.items ≡ []) }
+        ensures known { IfOk result (λ s. s.known ≡ cnf.now.clauses) }
         ensures starts { IfOk result (λ s. s.starts.items ≡ []) }
         ensures head { IfOk result (λ s. s.head ≡ 0) }
-        ensures trail { IfOk result (λ s. s.trail ≡ record { variables = variables; literals = []; reasons = [] }) }
+        ensures trail { IfOk result (λ s. s.trail ≡ record { variables = cnf.now.variables; literals = []; reasons = [] }) }
         ensures pairs { IfOk result (λ s. s.watches.pairs.items ≡ []) }
-        ensures watching { IfOk result (λ s. IsWatching variables s.watches.pairs.items s.watches.lists.items) }
+        ensures watching { IfOk result (λ s. IsWatching cnf.now.variables s.watches.pairs.items s.watches.lists.items) }
     {
         Ok(Search {
             lines: Vec::new(alloc),
-            trail: Trail::new(alloc, variables)?,
+            known: formula_clauses(alloc, cnf.clauses())?,
+            trail: Trail::new(alloc, cnf.variables)?,
             starts: Vec::new(alloc),
-            watches: Watches::new(alloc, variables)?,
+            watches: Watches::new(alloc, cnf.variables)?,
             head: 0,
-            order: Order::new(alloc, variables)?,
+            order: Order::new(alloc, cnf.variables)?,
         })
     }
 
@@ -78,9 +81,11 @@ impl Search {
     pub(crate) fn load_all(&mut self, cnf: &Cnf) -> Result<Option<u32>, AllocError>
         requires loading { IsLoading cnf.now self.old.trail self.old.watches.pairs.items self.old.watches.lists.items 0 }
         requires lines { self.old.lines.items ≡ [] }
+        requires known { self.old.known ≡ cnf.now.clauses }
         requires starts { self.old.starts.items ≡ [] }
         requires head { self.old.head ≡ 0 }
         ensures lines { OnOk result (self.new.lines.items ≡ []) }
+        ensures known { OnOk result (self.new.known ≡ cnf.now.clauses) }
         ensures starts { OnOk result (self.new.starts.items ≡ []) }
         ensures none { IfOk result (λ conflict. MatchOption conflict (Holds cnf.now self.new) (λ number. IsRefuted cnf.now.clauses cnf.now self.new.trail number)) }
     {

@@ -14,7 +14,7 @@ use crate::analysis::refute;
 use crate::search::Search;
 use crate::verdict::Verdict;
 use cnf_form::{Assignment, Clause, Cnf, Log, LogLine};
-use search_tables::{Restarts, Trail};
+use search_tables::{Clauses, Restarts, Trail};
 use sqlite_items::Items;
 use std::alloc::{AllocError, Global};
 use wc_outside::NoMemory;
@@ -43,9 +43,16 @@ fn search(alloc: Global, cnf: &Cnf, limit: u32) -> Result<Verdict, AllocError>
     ensures verdict { IfOk result (λ verdict. IsVerdict cnf.now limit verdict) }
     ensures small { IfOk result (λ verdict. IfGaveUp verdict (limit < 3 ^ cnf.now.variables)) }
 {
-    let mut search = Search::new(alloc, cnf.variables)?;
+    let mut search = Search::new(alloc, cnf)?;
     if let Some(conflict) = search.load_all(cnf)? {
-        return refuted(alloc, cnf, search.lines, &search.trail, conflict);
+        return refuted(
+            alloc,
+            cnf,
+            search.lines,
+            &search.known,
+            &search.trail,
+            conflict,
+        );
     }
     let mut restarts = Restarts::new();
     for _line in 0..limit {
@@ -53,7 +60,14 @@ fn search(alloc: Global, cnf: &Cnf, limit: u32) -> Result<Verdict, AllocError>
             None => return Ok(Verdict::Sat(assignment(alloc, &search.trail, cnf.variables)?)),
             Some(conflict) => {
                 if search.starts.is_empty() {
-                    return refuted(alloc, cnf, search.lines, &search.trail, conflict);
+                    return refuted(
+                        alloc,
+                        cnf,
+                        search.lines,
+                        &search.known,
+                        &search.trail,
+                        conflict,
+                    );
                 }
                 search.learn(alloc, cnf, conflict)?;
                 if restarts.is_over() {
@@ -72,16 +86,18 @@ fn refuted(
     alloc: Global,
     cnf: &Cnf,
     lines: Vec<LogLine>,
+    known: &Clauses,
     trail: &Trail,
     conflict: u32,
 ) -> Result<Verdict, AllocError>
     requires working { IsWorking cnf.now lines.items }
     requires few { length lines.items < most }
+    requires stored { known.now ≡ clauses_of cnf.now lines.items }
     requires refuted { IsRefuted (clauses_of cnf.now lines.items) cnf.now trail.now conflict }
     ensures verdict { IfOk result (λ verdict. (limit : ℕ) → IsVerdict cnf.now limit verdict) }
     ensures ends { IfOk result (λ verdict. IfGaveUp verdict ⊥) }
 {
-    let hints = refute(alloc, cnf, lines.as_slice(), trail, conflict)?;
+    let hints = refute(alloc, known, trail, cnf.variables, conflict)?;
     let mut lines = lines;
     lines.push(LogLine::new(Clause::of_clause(alloc, &[])?, hints))?;
     Ok(Verdict::Unsat(Log {

@@ -1,7 +1,7 @@
 //! The answers to the cases.
 
 use crate::formulas;
-use crate::outcome::{outcome, values};
+use crate::outcome::{search_outcome, values};
 use crate::wrong::Wrong;
 use case_lines::{is_heading, parts, with_lines};
 use cnf_form::{Cnf, read_cnf};
@@ -61,7 +61,7 @@ fn formula_of(alloc: Global, part: &str) -> Result<Cnf, Wrong> {
 }
 
 fn outcome_of(alloc: Global, cnf: &Cnf, limit: u32) -> Result<String, Wrong> {
-    Ok(outcome(alloc, cnf, limit)?.told(alloc)?)
+    Ok(search_outcome(alloc, cnf, limit)?.told(alloc)?)
 }
 
 // No random formula needs more lines.
@@ -78,7 +78,7 @@ fn many(
     let mut letters = String::new(alloc);
     for turn in 0..count {
         let cnf = formulas::random(alloc, variables, clauses, seed.saturating_add(turn))?;
-        letters.push(outcome(alloc, &cnf, MANY_LINES)?.letter())?;
+        letters.push(search_outcome(alloc, &cnf, MANY_LINES)?.letter())?;
     }
     Ok(letters)
 }

@@ -1,6 +1,7 @@
 //! Formulas that are made from numbers.
 
-ghost use Rattle.std.specs.Prelude.{◌≤◌, ◌<◌};
+ghost use Rattle.std.specs.Prelude.{◌≤◌, ◌<◌, ◌*◌, ◌+◌};
+ghost use Rattle.cnf_form.specs.Literals.{most};
 
 use crate::random::Draws;
 use crate::wrong::Wrong;
@@ -8,6 +9,7 @@ use cnf_form::{Clause, Cnf};
 use std::alloc::Global;
 
 /// A list of clauses that grows.
+#[derive(Drop)]
 struct Made {
     alloc: Global,
     clauses: Vec<Clause>,
@@ -27,21 +29,43 @@ impl Made {
         Ok(())
     }
 
-    // One literal is true where exactly one of the others is.
-    fn add_sum(&mut self, sum: i32, one: i32, other: i32) -> Result<(), Wrong>
-        requires { 0 < sum }
-        requires { 0 < one }
-        requires { 0 < other }
+    // The second variable is true where the first one is.
+    fn add_step(&mut self, from: u32, to: u32) -> Result<(), Wrong>
+        requires from { from ≤ most }
+        requires to { to ≤ most }
     {
-        self.add(&[-sum, one, other])?;
-        self.add(&[-sum, -one, -other])?;
-        self.add(&[sum, -one, other])?;
-        self.add(&[sum, one, -other])
+        self.add(&[isnt(from), is(to)])
+    }
+
+    // The first variable is true where exactly one of the others is.
+    fn add_sum(&mut self, sum: u32, one: u32, other: u32) -> Result<(), Wrong>
+        requires sum { sum ≤ most }
+        requires one { one ≤ most }
+        requires other { other ≤ most }
+    {
+        self.add(&[isnt(sum), is(one), is(other)])?;
+        self.add(&[isnt(sum), isnt(one), isnt(other)])?;
+        self.add(&[is(sum), isnt(one), is(other)])?;
+        self.add(&[is(sum), is(one), isnt(other)])
     }
 
     fn formula(self, variables: u32) -> Result<Cnf, Wrong> {
         Cnf::new(variables, self.clauses).ok_or(Wrong::NoCase)
     }
+}
+
+// The variable as a literal.
+fn is(variable: u32) -> i32
+    requires { variable ≤ most }
+{
+    variable as i32
+}
+
+// The variable negated.
+fn isnt(variable: u32) -> i32
+    requires { variable ≤ most }
+{
+    -(variable as i32)
 }
 
 /// The first variable is true, each follows from the one before it, and the last one is false. First come the steps from
@@ -50,16 +74,15 @@ pub(crate) fn chain(alloc: Global, variables: u32) -> Result<Cnf, Wrong> {
     if variables > 1_000_000 {
         return Err(Wrong::NoCase);
     }
-    let last = variables as i32;
     let mut made = Made::new(alloc);
     made.add(&[1])?;
-    for turn in 0..last / 2 {
-        made.add(&[-(2 * turn + 1), 2 * turn + 2])?;
+    for turn in 0..variables / 2 {
+        made.add_step(2 * turn + 1, 2 * turn + 2)?;
     }
-    for turn in 1..(last + 1) / 2 {
-        made.add(&[-(2 * turn), 2 * turn + 1])?;
+    for turn in 1..(variables + 1) / 2 {
+        made.add_step(2 * turn, 2 * turn + 1)?;
     }
-    made.add(&[-last])?;
+    made.add(&[isnt(variables)])?;
     made.formula(variables)
 }
 
@@ -68,7 +91,6 @@ pub(crate) fn pigeons(alloc: Global, holes: u32) -> Result<Cnf, Wrong> {
     if holes > 15 {
         return Err(Wrong::NoCase);
     }
-    let holes = holes as i32;
     let mut made = Made::new(alloc);
     for pigeon in 0..holes + 1 {
         add_pigeon(&mut made, pigeon, holes)?;
@@ -80,37 +102,32 @@ pub(crate) fn pigeons(alloc: Global, holes: u32) -> Result<Cnf, Wrong> {
 }
 
 // The variable that says that this pigeon is in this hole.
-fn sits(pigeon: i32, hole: i32) -> i32
-    requires { 0 ≤ pigeon }
-    requires { pigeon ≤ 15 }
-    requires { 0 ≤ hole }
-    requires { hole < 15 }
-    ensures { 0 < result }
-    ensures { result ≤ 255 }
+fn sits(pigeon: u32, hole: u32) -> u32
+    requires pigeon { pigeon ≤ 15 }
+    requires hole { hole ≤ 15 }
+    ensures { result ≤ 256 }
 {
     16 * pigeon + hole + 1
 }
 
-fn add_pigeon(made: &mut Made, pigeon: i32, holes: i32) -> Result<(), Wrong>
-    requires { 0 ≤ pigeon }
-    requires { pigeon ≤ 15 }
-    requires { holes ≤ 15 }
+fn add_pigeon(made: &mut Made, pigeon: u32, holes: u32) -> Result<(), Wrong>
+    requires pigeon { pigeon ≤ 15 }
+    requires holes { holes ≤ 15 }
 {
     let mut literals = Vec::new(made.alloc);
     for hole in 0..holes {
-        literals.push(sits(pigeon, hole))?;
+        literals.push(is(sits(pigeon, hole)))?;
     }
     made.add(literals.as_slice())
 }
 
-fn add_hole(made: &mut Made, hole: i32, holes: i32) -> Result<(), Wrong>
-    requires { 0 ≤ hole }
-    requires { hole < holes }
-    requires { holes ≤ 15 }
+fn add_hole(made: &mut Made, hole: u32, holes: u32) -> Result<(), Wrong>
+    requires hole { hole ≤ 15 }
+    requires holes { holes ≤ 15 }
 {
     for one in 0..holes + 1 {
         for other in one + 1..holes + 1 {
-            made.add(&[-sits(one, hole), -sits(other, hole)])?;
+            made.add(&[isnt(sits(one, hole)), isnt(sits(other, hole))])?;
         }
     }
     Ok(())
@@ -122,19 +139,25 @@ pub(crate) fn parity(alloc: Global, variables: u32) -> Result<Cnf, Wrong> {
     if variables == 0 || variables > 1000 {
         return Err(Wrong::NoCase);
     }
-    let last = variables as i32;
+    let (front, back) = (variables, 2 * variables);
     let mut made = Made::new(alloc);
-    made.add(&[-(last + 1), 1])?;
-    made.add(&[last + 1, -1])?;
-    made.add(&[-(2 * last + 1), last])?;
-    made.add(&[2 * last + 1, -last])?;
-    for turn in 1..last {
-        made.add_sum(last + turn + 1, last + turn, turn + 1)?;
-        made.add_sum(2 * last + turn + 1, 2 * last + turn, last - turn)?;
+    add_equal(&mut made, front + 1, 1)?;
+    add_equal(&mut made, back + 1, variables)?;
+    for turn in 1..variables {
+        made.add_sum(front + turn + 1, front + turn, turn + 1)?;
+        made.add_sum(back + turn + 1, back + turn, variables - turn)?;
     }
-    made.add(&[2 * last, 3 * last])?;
-    made.add(&[-(2 * last), -(3 * last)])?;
+    made.add(&[is(front + variables), is(back + variables)])?;
+    made.add(&[isnt(front + variables), isnt(back + variables)])?;
     made.formula(3 * variables)
+}
+
+fn add_equal(made: &mut Made, one: u32, other: u32) -> Result<(), Wrong>
+    requires one { one ≤ most }
+    requires other { other ≤ most }
+{
+    made.add_step(one, other)?;
+    made.add_step(other, one)
 }
 
 /// So many clauses of three literals each, drawn from a seed. There are 3 to 1000 variables.

@@ -45,7 +45,7 @@ impl Outcome {
 }
 
 /// What the search for the formula comes to.
-pub(crate) fn outcome(alloc: Global, cnf: &Cnf, limit: u32) -> Result<Outcome, Wrong> {
+pub(crate) fn search_outcome(alloc: Global, cnf: &Cnf, limit: u32) -> Result<Outcome, Wrong> {
     match verdict(alloc, cnf, limit)? {
         Verdict::Sat(assignment) => Ok(of_assignment(cnf, &assignment)),
         Verdict::Unsat(log) => of_refutation(alloc, cnf, &log),
@@ -87,9 +87,7 @@ fn satisfies(cnf: &Cnf, values: &[bool]) -> bool {
 }
 
 fn is_true(literals: &[i32], values: &[bool]) -> bool {
-    literals
-        .iter()
-        .any(|literal| value(values, literal.unsigned_abs()) == Some(*literal > 0))
+    literals.iter().any(|literal| value(values, literal.unsigned_abs()) == Some(*literal > 0))
 }
 
 // The value of a variable, the first of which is 1.

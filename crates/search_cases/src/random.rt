@@ -4,6 +4,7 @@ ghost use Rattle.std.specs.Prelude.{◌≤◌, ◌<◌, ◌≢◌};
 
 /// A linear congruential generator modulo 2^64: each state is the last one times `FACTOR` plus `STEP`, and a number is
 /// drawn from its upper 32 bits.
+#[derive(Drop)]
 pub(crate) struct Draws {
     state: u64,
 }
@@ -39,8 +40,8 @@ impl Draws {
 
     /// Three literals of different variables. The variables are drawn first and then the signs.
     pub(crate) fn clause(&mut self, variables: u32) -> [i32; 3]
-        requires { 2 < variables }
-        requires { variables ≤ 1000 }
+        requires some { 2 < variables }
+        requires few { variables ≤ 1000 }
     {
         let one = self.below(variables);
         let two = other_than(one, self.below(variables - 1));
@@ -53,8 +54,8 @@ impl Draws {
 // The number, or the next one where it is not below this one.
 fn other_than(this: u32, number: u32) -> u32
     requires { number < 1000 }
-    ensures { result ≤ number + 1 }
-    ensures { number < result + 1 }
+    ensures least { number ≤ result }
+    ensures most { result ≤ number + 1 }
 {
     if number < this { number } else { number + 1 }
 }

@@ -2,6 +2,7 @@
 //! that a conflict rests on, and the order in which variables are decided.
 #![tactic(auto)]
 
+mod clauses;
 mod entries;
 mod marks;
 mod order;
@@ -9,6 +10,7 @@ mod restarts;
 mod trail;
 mod watches;
 
+pub use clauses::Clauses;
 pub use entries::Entries;
 pub use marks::Marks;
 pub use order::Order;

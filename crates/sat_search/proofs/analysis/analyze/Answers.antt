@@ -1,7 +1,6 @@
 use Rattle.std.proofs.Common.{◌≡◌, ◌-◌, ◌≤◌, ℕ, ℤ, List, [], ◌∷◌, length, map, neg_ℤ, pos, take, sym, ◌∙◌, subst, arith, w32, to_z, of_z}
 use Rattle.std.proofs.lemmas.Int.{to_z-of_z}
 use Rattle.std.proofs.lemmas.List.Elements.{All-get_or}
-use Rattle.rup_check.specs.Accepted.{clauses_of}
 use Rattle.rup_check.specs.Follows.{IsFalse}
 use Rattle.rup_check.specs.Trail.{IsWithin}
 use Rattle.search_tables.specs.Trail.{literal_at}
@@ -13,7 +12,7 @@ use Rattle.sat_search.proofs.analysis.analyze.Goals as goal
 
 pub trace_level-requires-clause-below : goal.trace_level-requires-clause-below
 trace_level-requires-clause-below c =
-    let known = clauses_of c.args.cnf.now c.args.lines.now in
+    let known = c.args.known.now in
     let literals = c.args.trail.now.literals in
     let clause = c.known_clause.result.now in
     let from = last_start c.args.starts.now in
@@ -25,7 +24,7 @@ trace_level-requires-clause-below c =
 
 pub trace_level-requires-clause-traced : goal.trace_level-requires-clause-traced
 trace_level-requires-clause-traced c =
-    let known = clauses_of c.args.cnf.now c.args.lines.now in
+    let known = c.args.known.now in
     let literals = c.args.trail.now.literals in
     let clause = c.known_clause.result.now in
     let at = c.known_clause.ensures.literals in
@@ -38,7 +37,7 @@ negated-requires c =
     let low : ℕ = c.trace_level.new.marks.low in
     let same : to_z w32 (of_z w32 c.literal.result) ≡ c.literal.result = grind (arith, to_z-of_z) in
     let within = All-get_or (IsWithin c.args.trail.now.variables) literals low (pos 0) c.in_ok-trace_level.ensures.below c.requires.sound.within in
-    rw (same, c.literal.ensures) (within.0, omega (arith, within.1, c.requires.variables, c.args.cnf.now.few_variables))
+    rw (same, c.literal.ensures) (within.0, omega (arith, within.1, c.requires.variables, c.requires.few))
 
 pub keep_marked-requires-clause-base : goal.keep_marked-requires-clause-base
 keep_marked-requires-clause-base c =
@@ -49,14 +48,14 @@ keep_marked-requires-clause-base c =
     omega (arith, least, above, same)
 
 pub keep_marked-requires-clause-reasoned : goal.keep_marked-requires-clause-reasoned
-keep_marked-requires-clause-reasoned c p inside = reasoned_where (clauses_of c.args.cnf.now c.args.lines.now) c.args.trail.now c.args.starts.now p c.requires.sound inside
+keep_marked-requires-clause-reasoned c p inside = reasoned_where c.args.known.now c.args.trail.now c.args.starts.now p c.requires.sound inside
 
 pub trace_down-requires-clause-reasoned : goal.trace_down-requires-clause-reasoned
-trace_down-requires-clause-reasoned c p early = reasoned_before (clauses_of c.args.cnf.now c.args.lines.now) c.args.trail.now c.args.starts.now p c.requires.sound c.requires.decided early
+trace_down-requires-clause-reasoned c p early = reasoned_before c.args.known.now c.args.trail.now c.args.starts.now p c.requires.sound c.requires.decided early
 
 pub returns : goal.returns
 returns c =
-    let known = clauses_of c.args.cnf.now c.args.lines.now in
+    let known = c.args.known.now in
     let literals : List ℤ = c.args.trail.now.literals in
     let marks = c.trace_level.new.marks in
     let low : ℕ = marks.low in
@@ -74,5 +73,5 @@ returns c =
       places = more.0;
       listed = more.1;
       asserting = subst (λ f. IsAsserting f more.0) from_is more.2;
-      leads = rw c.reverse.ensures.items (c.in_ok-trace_down.ensures (map neg_ℤ c.keep_marked.new.literals.items) traced);
+      leads = rw c.in_order.ensures (c.in_ok-trace_down.ensures (map neg_ℤ c.keep_marked.new.literals.items) traced);
     }

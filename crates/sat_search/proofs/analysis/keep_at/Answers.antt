@@ -1,6 +1,5 @@
 use Rattle.std.proofs.Common.{◌≡◌, ◌+◌, ◌++◌, ◌∷◌, [], ℤ, List, neg_ℤ, true, false, get_or, w32, to_z, of_z, arith, refl, sym, ◌∙◌}
 use Rattle.std.proofs.lemmas.Int.{to_z-of_z}
-use Rattle.rup_check.specs.Accepted.{clauses_of}
 use Rattle.search_tables.specs.Trail.{literal_at, variable_at}
 use Rattle.sat_search.proofs.Keeping.{skip_step, keep_step, drop_step, IsOfPlaces-push, IsAsserting-push, early_place}
 use Rattle.sat_search.proofs.analysis.keep_at.Goals as goal
@@ -10,12 +9,12 @@ returns-then-not-is_seen-clause-traced c traces =
     let same : to_z w32 (of_z w32 c.literal-literal.result) ≡ c.literal-literal.result = grind (arith, to_z-of_z) in
     let unmarked : c.is_seen.result ≡ false = grind arith in
     let unseen : get_or c.args.marks.now.seen.items (variable_at c.args.trail.now.literals c.args.place) false ≡ false = sym (rw (same, c.literal-literal.ensures) at c.is_seen.ensures) ∙ unmarked in
-    skip_step (clauses_of c.args.cnf.now c.args.lines.now) c.args.trail.now.literals _ c.args.place c.args.marks.now.seen.items _ _ refl c.requires.inside unseen traces
+    skip_step c.args.known.now c.args.trail.now.literals _ c.args.place c.args.marks.now.seen.items _ _ refl c.requires.inside unseen traces
 
 pub returns-in-Some-clause-traced : goal.returns-in-Some-clause-traced
 returns-in-Some-clause-traced c traces =
     rw c.in_ok-push.ensures.items
-    (drop_step (clauses_of c.args.cnf.now c.args.lines.now) c.args.trail.now c.args.place c.args.marks.now.seen.items _ c.in-Some.number c.args.hints.now.items c.requires.apart c.requires.inside c.requires.hinted c.in-Some.ensures traces)
+    (drop_step c.args.known.now c.args.trail.now c.args.place c.args.marks.now.seen.items _ c.in-Some.number c.args.hints.now.items c.requires.apart c.requires.inside c.requires.hinted c.in-Some.ensures traces)
 
 pub returns-clause-places : goal.returns-clause-places
 returns-clause-places c places listed asserting =
@@ -40,4 +39,4 @@ returns-clause-traced c traces =
     let again : to_z w32 (of_z w32 c.negated.result) ≡ c.negated.result = grind (arith, to_z-of_z) in
     let negated_is : c.negated.result ≡ neg_ℤ (literal_at literals p) = rw (same, c.literal-literal.ensures) at c.negated.ensures in
     let pushed : c.push-2.new.self.items ≡ c.args.literals.now.items ++ neg_ℤ (literal_at literals p) ∷ [] = rw (again, negated_is) at c.in_ok-push-2.ensures.items in
-    rw pushed (keep_step (clauses_of c.args.cnf.now c.args.lines.now) literals (p + 1) p c.args.marks.now.seen.items c.args.literals.now.items _ refl c.requires.inside traces)
+    rw pushed (keep_step c.args.known.now literals (p + 1) p c.args.marks.now.seen.items c.args.literals.now.items _ refl c.requires.inside traces)

@@ -1,5 +1,4 @@
 use Rattle.std.proofs.Common.{◌<◌, ◌≤◌, length, [], reverse}
-use Rattle.rup_check.specs.Accepted.{clauses_of}
 use Rattle.sat_search.specs.Tracing.{Traces}
 use Rattle.search_tables.specs.Marking.{MarksMore}
 use Rattle.sat_search.proofs.analysis.trace_level.Given as goal
@@ -10,7 +9,7 @@ invariant-loop-marks l = record {
   behind : l.marks.low < l.place;
   inside : l.place ≤ length l.trail.literals;
   hinted : 0 < length l.hints.items;
-  traced : Traces (clauses_of l.cnf l.lines) l.trail.literals l.place l.marks.seen.items [] (reverse l.hints.items);
+  traced : Traces l.known l.trail.literals l.place l.marks.seen.items [] (reverse l.hints.items);
 }
 
 abbrev pub decreases-loop-marks : goal.decreases-loop-marks
