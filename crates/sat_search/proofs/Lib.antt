@@ -1,0 +1,13 @@
+pub mod TracingBack
+pub mod Keeping
+pub mod LearnedLemmas
+pub mod Guarding
+pub mod Visiting
+pub mod Visited
+pub mod Extending
+pub mod Backjump
+pub mod Learning
+pub mod Restarting
+pub mod Deciding
+pub mod Ending
+pub mod Knowing

@@ -1,0 +1,11 @@
+pub mod Sound
+pub mod Tracing
+pub mod Learning
+pub mod Working
+pub mod Held
+pub mod Visits
+pub mod Totals
+pub mod Verdicts
+pub mod Loading
+pub mod Assigning
+pub mod Guarded

@@ -1,0 +1,4 @@
+pub mod Placing
+pub mod Entering
+pub mod MarkingMore
+pub mod Cutting
