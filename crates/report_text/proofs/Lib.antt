@@ -1,0 +1,11 @@
+pub mod Decimals
+pub mod Numbers
+pub mod LineCourses
+pub mod Stages
+pub mod Injective
+pub mod Matching
+pub mod Inputs
+pub mod Complete
+pub mod Assembling
+pub mod Counting
+pub mod Shortest
