@@ -8,8 +8,8 @@ ghost use Rattle.c_parse.specs.Reads.{Reads};
 
 use crate::reader::Reader;
 use c_symbols::{
-    MeasuredExpr, binary, binds, cast, conditional, element, level, measured, parenthesised, scalar,
-    unary, unary_operator,
+    MeasuredExpr, binary, binds, cast, conditional, element, level, measured, parenthesised,
+    scalar, unary, unary_operator,
 };
 use c_tree::{BinOp, RawExpr, Symbol, UnOp};
 use parse_laws::{Fault, Next};
