@@ -7,6 +7,7 @@ use Rattle.c_tree.specs.Values.{of_word}
 use Rattle.bv_term.specs.declared.op.Op.TheVariants as op
 use Rattle.bv_term.specs.Words.{flag}
 use Rattle.bv_term.specs.Scripts.{Script, Done, Put, ◌>>=◌, Always}
+pub use Rattle.cond_laws.specs.Sizes.{HasSmallLength, AreSmallLocals, IsSmallContent}
 use Rattle.cond_laws.proofs.Judging.{Stands}
 use Rattle.std.specs.Prelude.{map, length, option_map}
 use Rattle.c_tree.specs.declared.tree.Expr.{Expr}
@@ -29,8 +30,8 @@ use Rattle.flow_laws.specs.Sites.{Content, Entry, Exit, Simple, Test, Jump, Give
 use Rattle.flow_laws.specs.Driving as drive
 use Rattle.flow_laws.specs.Driving.{Memory, memory, Move, Stuck, Stays, Goes}
 use Rattle.bv_term.proofs.ScriptLaws.{always_then}
-use Rattle.cond_laws.specs.declared.slot.TermSlot.{TermSlot}
-use Rattle.cond_laws.specs.declared.slot.TermSlot.TheVariants.{Unset, Number, Numbers}
+use Rattle.cond_laws.specs.declared.store.TermSlot.{TermSlot}
+use Rattle.cond_laws.specs.declared.store.TermSlot.TheVariants.{Unset, Number, Numbers}
 use Rattle.cond_laws.specs.Judged.{all_hold, when_all}
 use Rattle.cond_laws.specs.TermStores.{TermStore, slot_at, slots_at, store_at, put_term, unset_local, zeros}
 use Rattle.cond_laws.specs.TermExpressions.{expr, all_exprs}
@@ -142,14 +143,6 @@ give_moves input at small e m h = always_then (Stands at (val e (store_at at m.s
 -- ---- calls
 
 -- arrays have at most 2^31 elements
-abbrev pub HasSmallLength : Option ℕ → Type 0
-HasSmallLength None = Unit {0}
-HasSmallLength (Some n) = n ≤ 2 ^ 31
-
-abbrev pub AreSmallLocals : List Local → Type 0
-AreSmallLocals [] = Unit {0}
-AreSmallLocals (l ∷ ls) = HasSmallLength l.length × AreSmallLocals ls
-
 pub record Begins (at : ℕ → ℕ) (to : List Slot) (xs : List TermSlot) : Type 0 where
   pub is : slots_at at xs ≡ to
   pub small : AreSmall xs
@@ -221,11 +214,6 @@ land_moves input at small t u b (ls ∷ fs) s r hs hf =
     subst (λ v. Always input at (tp.land t u (ls ∷ fs) (term_memory s (ls ∷ fs) r)) (Moves at (drive.land t v (slots_at at ls) (map (slots_at at) fs) (slots_at at s.globals)) Next)) (result_is at small u r) (give_lands input at small t (tp.result_of u r) ls fs s.globals hf.0 hf.1 hs.globals)
 
 -- ---- all nodes
-
-abbrev pub IsSmallContent : Content → Type 0
-IsSmallContent (Simple ss) = HaveSmallLists ss
-IsSmallContent (Enter t ls es) = AreSmallLocals ls
-IsSmallContent _ = Unit {0}
 
 not_true : (o : Option Memory) (m : Memory) → drive.goes_with o ≡ Goes True m → ⊥
 not_true None m h = absurd (cc h)

@@ -5,6 +5,7 @@ use Rattle.c_tree.specs.declared.tree.Ty.{Ty}
 use Rattle.c_tree.specs.declared.tree.Ty.TheVariants as ty
 use Rattle.bv_term.specs.declared.op.Op.TheVariants as op
 use Rattle.bv_term.specs.Scripts.{Done, Put, ◌>>=◌}
+pub use Rattle.cond_laws.specs.Fits.{AsMany, FitEffect, FitFrames, FitReturned, FitMemory}
 use Rattle.cond_laws.specs.Judged.{Judged}
 use Rattle.cond_laws.specs.TermOperators as spec
 use Rattle.std.specs.Prelude.{length, slice_get}
@@ -18,8 +19,8 @@ use Rattle.c_tree.specs.declared.tree.Stmt.{Stmt}
 use Rattle.c_tree.specs.declared.tree.Stmt.TheVariants as stmt
 use Rattle.bv_term.specs.Scripts.{Fitting}
 use Rattle.bv_term.proofs.FitLaws.{fitting_then}
-use Rattle.cond_laws.specs.declared.slot.TermSlot.{TermSlot}
-use Rattle.cond_laws.specs.declared.slot.TermSlot.TheVariants.{Unset, Number, Numbers}
+use Rattle.cond_laws.specs.declared.store.TermSlot.{TermSlot}
+use Rattle.cond_laws.specs.declared.store.TermSlot.TheVariants.{Unset, Number, Numbers}
 use Rattle.cond_laws.specs.TermStores.{TermStore, held_at, held_ty, held_length, within, with_slot, unset_local, put_term, replaced, zeros, put_list}
 use Rattle.cond_laws.specs.TermExpressions.{expr, all_exprs}
 use Rattle.cond_laws.specs.TermStatements as ts
@@ -100,10 +101,6 @@ small_content (Land t u b) h = tt
 
 -- ---- effects
 
-pub record FitEffect (k : ℕ) (e : Effect TermStore) : Type 0 where
-  pub now : FitStore k e.now
-  pub conditions : AllBelow k e.conditions
-
 nowhere_fits : (i k : ℕ) (s : TermStore) → FitStore k s → Fitting i k (nowhere s) FitEffect
 nowhere_fits i k s h = (omega arith, λ z n hz l. record { now = store_more k n s l h; conditions = (hz, tt) })
 
@@ -114,10 +111,6 @@ place_fits i k (ElemPlace x j) s h w = elem_fit i k (held_at s x) (expr j s) (he
 assigned_fits : (i k : ℕ) (p : Place) (o : Option BinOp) (e : Expr) (s : TermStore) → FitStore k s → IsPlainPlace p → HasWords e → Fitting i k (ts.assigned_value p o e s) FitJudged
 assigned_fits i k p None e s h w we = expr_fits i k e s h we
 assigned_fits i k p (Some o) e s h w we = fitting_then FitJudged FitJudged i k (ts.place_value p s) (λ a. expr e s >>= (λ b. spec.operated o a b)) (place_fits i k p s h w) (λ n a l ha. fitting_then FitJudged FitJudged i n (expr e s) (λ b. spec.operated o a b) (expr_fits i n e s (store_more k n s l h) we) (λ m b l2 hb. operated_fits i m o a b (judged_more n m a l2 ha) hb))
-
--- as many terms, all there
-abbrev pub AsMany : ℕ → ℕ → List ℕ → Type 0
-AsMany count k ns = AllBelow k ns × (length ns ≡ count)
 
 replaced_fits : (i k e j v : ℕ) (ns : List ℕ) → e < k → v < k → AllBelow k ns → j + length ns ≤ 2 ^ 32 → Fitting i k (replaced e j v ns) (AsMany (length ns))
 replaced_fits i k e j v [] he hv h l = (tt, refl)
@@ -162,19 +155,6 @@ all_simple_fit i k [] s h w = record { now = h; conditions = tt }
 all_simple_fit i k (st ∷ rest) s h w = fitting_then FitEffect FitEffect i k (ts.simple st s) (λ a. ts.all_simple rest a.now >>= (λ b. Done (effect b.now (a.conditions ++ b.conditions)))) (simple_fits i k st s h w.0) (λ n a l ha. fitting_then FitEffect FitEffect i n (ts.all_simple rest a.now) (λ b. Done (effect b.now (a.conditions ++ b.conditions))) (all_simple_fit i n rest a.now ha.now w.1) (λ m b l2 hb. record { now = hb.now; conditions = below_append m a.conditions b.conditions (below_more n m a.conditions l2 ha.conditions) hb.conditions }))
 
 -- ---- nodes
-
-abbrev pub FitFrames : ℕ → List (List TermSlot) → Type 0
-FitFrames k [] = Unit {0}
-FitFrames k (ys ∷ fs) = FitSlots k ys × FitFrames k fs
-
-abbrev pub FitReturned : ℕ → Option Returned → Type 0
-FitReturned k None = Unit {0}
-FitReturned k (Some r) = r.term < k
-
-pub record FitMemory (k : ℕ) (m : TermMemory) : Type 0 where
-  pub store : FitStore k m.store
-  pub frames : FitFrames k m.frames
-  pub result : FitReturned k m.result
 
 frames_more : (k n : ℕ) (fs : List (List TermSlot)) → k ≤ n → FitFrames k fs → FitFrames n fs
 frames_more k n [] l h = tt

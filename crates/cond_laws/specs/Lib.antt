@@ -5,4 +5,6 @@ pub mod TermExpressions
 pub mod TermStatements
 pub mod TermPaths
 pub mod Conditions
+pub mod Fits
+pub mod Sizes
 pub mod Weights

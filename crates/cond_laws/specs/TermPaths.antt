@@ -18,18 +18,14 @@ use Rattle.flow_laws.specs.Sites.{Content, Entry, Simple, Test, Jump, Give, Ente
 use Rattle.flow_laws.specs.Graphs.{copies, graph, edges, loops}
 use Rattle.flow_laws.specs.Paths.{keeps_each}
 use Rattle.bv_term.specs.declared.op.Op.TheVariants as op
-use Rattle.bv_term.specs.Stores.{Terms}
 use Rattle.bv_term.specs.Scripts.{Script, put, pure, ◌>>=◌, ops_after, outcome}
-use Rattle.cond_laws.specs.declared.slot.TermSlot.{TermSlot}
-use Rattle.cond_laws.specs.declared.slot.TermSlot.TheVariants.{Unset, Number, Numbers}
+pub use Rattle.cond_laws.specs.declared.value.Returned.{Returned}
+pub use Rattle.cond_laws.specs.declared.condition.PathCond.{PathCond}
+use Rattle.cond_laws.specs.declared.store.TermSlot.{TermSlot}
+use Rattle.cond_laws.specs.declared.store.TermSlot.TheVariants.{Unset, Number, Numbers}
 use Rattle.cond_laws.specs.TermStores.{TermStore, unset_local, put_term, zeros}
 use Rattle.cond_laws.specs.TermExpressions.{expr, all_exprs}
 use Rattle.cond_laws.specs.TermStatements.{Effect, effect, nowhere, all_simple}
-
--- a value that was returned
-pub record Returned : Type 0 where
-  pub ty : Ty
-  pub term : ℕ
 
 -- the store, the locals of the callers, innermost first, and the value that was returned
 pub record TermMemory : Type 0 where
@@ -170,12 +166,7 @@ abbrev pub is_signed : Ty → Bool
 is_signed ty.Int = true
 is_signed ty.Unsigned = false
 
--- a store of terms, and the numbers of the conditions
-pub record PathTerms : Type 0 where
-  pub terms : Terms
-  pub conditions : List ℕ
-
 -- the terms of a list: the program's inputs are declared in order, and the operators put in the order of the list
-unfoldable pub TermsOf : Program → List ℕ → PathTerms
+unfoldable pub TermsOf : Program → List ℕ → PathCond
 TermsOf p q =
     record { terms = record { inputs = map is_signed (input_types p); ops = ops_after (conditions_of p q) [] }; conditions = outcome (conditions_of p q) [] }
