@@ -19,3 +19,4 @@ pub mod PathFits
 pub mod PlainGraphs
 pub mod Whole
 pub mod Worked
+pub mod ExpressionLayers
