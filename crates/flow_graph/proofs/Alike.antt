@@ -13,11 +13,11 @@ use Rattle.c_tree.specs.declared.tree.Stmt.TheVariants.{Empty, Scalar, Array, As
 use Rattle.c_tree.specs.declared.tree.Stmt.TheBlock.{hidden-the_row-Stmt-0}
 use Rattle.c_tree.specs.Blocks.{is_simple, blocks, row_blocks, held_blocks}
 use Rattle.c_tree.specs.Statements.{block}
-use Rattle.flow_laws.specs.Sites.{Position, times_as_often, Content, Simple, Copy, LoopCopy, Jump, Give, Enter, Land, Missing, Site, Targets, asks, body_of, call_sites, flow, flush, head, held_flow, held_size, list_flow, loop_at, one, past, row_flow, row_size, size, with_next}
+use Rattle.flow_laws.specs.Sites.{Position, times_as_often, Content, Simple, Copy, LoopCopy, Jump, Give, Enter, Land, Missing, Site, Targets, asks, body_of, call_of, call_sites, flow, flush, head, held_flow, held_size, list_flow, loop_at, one, past, row_flow, row_size, size, with_next}
 use Rattle.flow_laws.specs.Graphs.{all_to, copy_of, copies}
 use Rattle.flow_laws.proofs.Copies.{row_flows}
 use Rattle.flow_graph.specs.Amounts.{kept}
-use Rattle.flow_graph.specs.Spots.{call_of, ends_of, test_ends, spot_of, spots}
+use Rattle.flow_graph.specs.Spots.{ends_of, test_ends, spot_of, spots}
 
 -- ---- scales
 

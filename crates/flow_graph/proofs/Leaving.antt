@@ -13,7 +13,7 @@ use Rattle.flow_graph.specs.declared.interval.Span.{Span}
 use Rattle.flow_graph.specs.declared.spot.Spot.{Spot}
 use Rattle.flow_graph.specs.Spots.{spot_of, spots, ends_of}
 use Rattle.flow_graph.specs.Joints.{outs_of}
-use Rattle.flow_graph.specs.Leaving.{LeavesBy, Leave, IsAmong, AreOuts, outs_from, all_outs}
+use Rattle.flow_graph.specs.Leaving.{IsOutBy, Leave, IsAmong, AreOuts, outs_from, all_outs}
 use Rattle.flow_graph.specs.Spans.{span_of, ends_spans, spot_spans}
 use Rattle.flow_graph.proofs.Sums.{drop_is}
 use Rattle.flow_graph.proofs.Drawn.{outs_are, outs_long}
@@ -120,12 +120,12 @@ from_is n s (Land t ty b) k e h = (one_from n s.yes k e h).0
 
 -- ---- what leaves a node
 
-one_at : (es : List Edge) (n first t : ℕ) → ((k : ℕ) (e : Edge) → slice_get (leaves n Next t ∷ []) k ≡ Some e → slice_get es (first + k) ≡ Some e) → LeavesBy es n first Next
+one_at : (es : List Edge) (n first t : ℕ) → ((k : ℕ) (e : Edge) → slice_get (leaves n Next t ∷ []) k ≡ Some e → slice_get es (first + k) ≡ Some e) → IsOutBy es n first Next
 one_at es n first t h =
     let z : first ≡ first + 0 = omega arith in
     record { edge = leaves n Next t; is = ap (slice_get es) z ∙ h 0 (leaves n Next t) refl; from_is = refl; way_is = refl }
 
-two_at : (es : List Edge) (n first t u : ℕ) → ((k : ℕ) (e : Edge) → slice_get (leaves n True t ∷ (leaves n False u ∷ [])) k ≡ Some e → slice_get es (first + k) ≡ Some e) → LeavesBy es n first True × LeavesBy es n (first + 1) False
+two_at : (es : List Edge) (n first t u : ℕ) → ((k : ℕ) (e : Edge) → slice_get (leaves n True t ∷ (leaves n False u ∷ [])) k ≡ Some e → slice_get es (first + k) ≡ Some e) → IsOutBy es n first True × IsOutBy es n (first + 1) False
 two_at es n first t u h =
     let z : first ≡ first + 0 = omega arith in
     (record { edge = leaves n True t; is = ap (slice_get es) z ∙ h 0 (leaves n True t) refl; from_is = refl; way_is = refl }, record { edge = leaves n False u; is = h 1 (leaves n False u) refl; from_is = refl; way_is = refl })

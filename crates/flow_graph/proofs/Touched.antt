@@ -18,7 +18,7 @@ use Rattle.flow_graph.specs.Touches.{touch_of, with_touch, touches_of, all_touch
 -- ---- what a pass leaves alone
 
 -- the loops' numbers are k or more
-abbrev From : ℕ → List Touch → Type 0
+abbrev pub From : ℕ → List Touch → Type 0
 From k [] = Unit {0}
 From k (Enters j n ∷ ts) = (k ≤ j) × From k ts
 From k (Turns j ∷ ts) = (k ≤ j) × From k ts
@@ -33,7 +33,7 @@ from_with k i l j ts le f true tu = (le, f)
 from_with k i l j ts le f false true = (le, f)
 from_with k i l j ts le f false false = f
 
-touches_from : (k : ℕ) (ls : List Loop) (j : ℕ) → From k (touches_of k ls j)
+pub touches_from : (k : ℕ) (ls : List Loop) (j : ℕ) → From k (touches_of k ls j)
 touches_from k [] j = tt
 touches_from k (l ∷ ls) j =
     let rest = from_more k (k + 1) (touches_of (k + 1) ls j) (omega arith) (touches_from (k + 1) ls j) in
@@ -144,6 +144,10 @@ one_more k (l ∷ ls) j q left = one_step k l ls j q (one_more (k + 1) ls j q) (
 
 -- ---- the table
 
+pub table_long : (ls : List Loop) (i : ℕ) (es : List Edge) → length (all_touches ls i es) ≡ length es
+table_long ls i [] = refl
+table_long ls i (e ∷ es) = ap suc (table_long ls (i + 1) es)
+
 row_at : (ls : List Loop) (i : ℕ) (es : List Edge) (j : ℕ) → nat_lt j (length es) ≡ true → slice_get (all_touches ls i es) j ≡ Some (touches_of 0 ls (i + j))
 row_at ls i [] j lt = let no = ltb-true j 0 lt in absurd (omega (arith, no))
 row_at ls i (e ∷ es) zero lt = let z : i ≡ i + 0 = omega arith in ap (λ n. Some (touches_of 0 ls n)) z
@@ -151,6 +155,14 @@ row_at ls i (e ∷ es) (suc j) lt =
     let below = ltb-true (suc j) (length (e ∷ es)) lt in
     let z : i + 1 + j ≡ i + suc j = omega arith in
     row_at ls (i + 1) es j (lt-ltb j (length es) (omega (arith, below))) ∙ ap (λ n. Some (touches_of 0 ls n)) z
+
+pub row_is : (ls : List Loop) (es : List Edge) (table : List (List Touch)) (j : ℕ) (row : List Touch) → table ≡ all_touches ls 0 es → j < length es → row ≡ get_or table j row → row ≡ touches_of 0 ls j
+row_is ls es table j row same lt is =
+    let z : 0 + j ≡ j = omega arith in
+    let within : j < length table = omega (arith, lt, ap length same, table_long ls 0 es) in
+    let both : Some row ≡ Some (touches_of 0 ls (0 + j)) = ap Some is ∙ sym (slice_get-get_or table j row within) ∙ ap (λ t. slice_get t j) same ∙ row_at ls 0 es j (lt-ltb j (length es) lt) in
+    let rows : row ≡ touches_of 0 ls (0 + j) = cc in
+    rows ∙ ap (touches_of 0 ls) z
 
 no_row : (ls : List Loop) (i : ℕ) (es : List Edge) (j : ℕ) → nat_lt j (length es) ≡ false → slice_get (all_touches ls i es) j ≡ None
 no_row ls i [] j ge = refl

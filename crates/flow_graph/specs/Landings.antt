@@ -1,8 +1,7 @@
 -- Landings, and the blocks of their calls. This project's own.
 use Rattle.std.specs.Prelude.{List, map, Option}
 use Rattle.c_tree.specs.declared.program.BlockName.{BlockName}
-use Rattle.flow_laws.specs.Sites.{Site}
-use Rattle.flow_graph.specs.Spots.{call_of}
+use Rattle.flow_laws.specs.Sites.{Site, call_of}
 
 -- for each node, of a landing the block of its call
 abbrev pub calls : List Site → List (Option BlockName)

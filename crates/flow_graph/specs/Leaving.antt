@@ -11,7 +11,7 @@ use Rattle.flow_graph.specs.declared.spot.Spot.{Spot}
 use Rattle.flow_graph.specs.Joints.{outs_of}
 
 -- the edge number e leaves the node n by this way
-pub record LeavesBy (es : List Edge) (n e : ℕ) (way : Way) : Type 0 where
+pub record IsOutBy (es : List Edge) (n e : ℕ) (way : Way) : Type 0 where
   pub edge : Edge
   pub is : slice_get es e ≡ Some edge
   pub from_is : edge.from ≡ n
@@ -20,8 +20,8 @@ pub record LeavesBy (es : List Edge) (n e : ℕ) (way : Way) : Type 0 where
 -- these edges leave the node n, of a condition's first the one by `True`
 abbrev pub Leave : List Edge → ℕ → Outs → Type 0
 Leave es n Nowhere = Unit {0}
-Leave es n (One e) = LeavesBy es n e Next
-Leave es n (Two t f) = LeavesBy es n t True × LeavesBy es n f False
+Leave es n (One e) = IsOutBy es n e Next
+Leave es n (Two t f) = IsOutBy es n t True × IsOutBy es n f False
 
 -- the edge number j is one of them
 abbrev pub IsAmong : Outs → ℕ → Type 0

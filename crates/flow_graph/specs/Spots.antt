@@ -2,7 +2,7 @@
 use Rattle.std.specs.Prelude.{List, map, Option, Some, None}
 use Rattle.c_tree.specs.declared.program.BlockName.{BlockName}
 use Rattle.flow_laws.specs.declared.graph.Node.{Node}
-use Rattle.flow_laws.specs.Sites.{LoopCopy, Content, Entry, Exit, Simple, Test, Jump, Give, Enter, Missing, Land, Site}
+use Rattle.flow_laws.specs.Sites.{LoopCopy, Content, Entry, Exit, Simple, Test, Jump, Give, Enter, Missing, Land, Site, call_of}
 use Rattle.flow_graph.specs.declared.spot.Turn.{Turn}
 use Rattle.flow_graph.specs.declared.spot.Ends.{Ends}
 use Rattle.flow_graph.specs.declared.spot.Ends.TheVariants as ends
@@ -26,11 +26,6 @@ ends_of (Give e) = ends.Once
 ends_of (Enter t ls es) = ends.Once
 ends_of Missing = ends.Once
 ends_of (Land t ty b) = ends.Once
-
--- the block of a landing's call
-abbrev pub call_of : Content → Option BlockName
-call_of (Land t ty b) = Some b
-call_of _ = None
 
 abbrev pub kept_node : Node → Node
 kept_node nd = record { block = nd.block; chain = nd.chain; cap = kept nd.cap }

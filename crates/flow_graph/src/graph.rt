@@ -11,6 +11,7 @@ ghost use Rattle.flow_graph.specs.Landings.{calls};
 ghost use Rattle.flow_graph.specs.Leaving.{AreOuts};
 ghost use Rattle.flow_graph.specs.Plans.{IsPlan, IsPlanned, planned, keeps_all};
 ghost use Rattle.flow_graph.specs.Spans.{span_of};
+ghost use Rattle.flow_graph.specs.Touches.{touches_of};
 
 use crate::interval::Span;
 use crate::lists::{edge_cost, follows};
@@ -178,6 +179,15 @@ impl Plan {
         ensures { result.now ≡ loops (graph self.now.program) }
     {
         self.loops.as_slice()
+    }
+
+    /// The loops that the edge number `e` enters, and that of which it is the turn, in the order of `loops`. It takes
+    /// constant time.
+    pub fn touches(&self, e: u16) -> &[Touch]
+        requires { e < length (edges (graph self.now.program)) }
+        ensures { result.now ≡ touches_of 0 (loops (graph self.now.program)) e }
+    {
+        self.touches.as_slice()[e as usize].as_slice()
     }
 
     /// Whether the list names only edges and is contiguous from Entry.

@@ -22,3 +22,4 @@ pub use interval::Span;
 pub use law::worked_limits;
 pub use onward::Outs;
 pub use planning::plan;
+pub use touch::Touch;

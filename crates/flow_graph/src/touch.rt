@@ -24,9 +24,9 @@ use std::alloc::Global;
 /// How many loops a plan can have: each has two edges.
 const MOST_LOOPS: usize = 1024;
 
-/// What an edge does to a loop, which it tells by its number.
+/// What an edge does to a loop, which it tells by the loop's number.
 #[derive(Clone, Copy, Debug, PartialEq, Eq)]
-pub(crate) enum Touch {
+pub enum Touch {
     /// It enters the loop, which may then turn so often.
     Enters(u16, u32),
     /// It is the loop's turn.

@@ -1,6 +1,6 @@
 -- The bounds of loops one edge on.
-use Rattle.std.proofs.Common.{◌≡◌, ℕ, zero, suc, ◌-◌, Bool, true, false, if◌then◌else◌, List, [], ◌∷◌, ◌++◌, Option, Some, None, refl, ap, ◌∙◌, arith, tests}
-use Rattle.std.specs.Prelude.{◌==◌, ◌&&◌}
+use Rattle.std.proofs.Common.{◌≡◌, ℕ, zero, suc, ◌-◌, Bool, true, false, if◌then◌else◌, List, [], ◌∷◌, ◌++◌, Option, Some, None, refl, ap, ◌∙◌, subst, arith, tests}
+use Rattle.std.specs.Prelude.{◌↔◌, ◌==◌, ◌&&◌, slice_get}
 use Rattle.flow_laws.specs.declared.graph.Loop.{Loop}
 use Rattle.flow_laws.specs.Paths.{is_among, most_turns, after_turn, keeps_from, keeps, keeps_each, one_less, turns_left_on, turns_left_from, turns_left, has_turn, allows, each_allows}
 use Rattle.flow_laws.proofs.Prefixes.{each_is, each_front}
@@ -66,3 +66,27 @@ each_on (l ∷ ls) q j =
 
 pub each_begin : (ls : List Loop) (a b : List ℕ) → keeps_each ls (a ++ b) ≡ true → keeps_each ls a ≡ true
 each_begin ls a b h = (each_is ls a).0 (each_front ls a b ((each_is ls (a ++ b)).1 h))
+
+-- ---- each loop by its number
+
+abbrev AllowsAt : List Loop → List ℕ → ℕ → Type 0
+AllowsAt ls q j = (k : ℕ) (l : Loop) → slice_get ls k ≡ Some l → allows l j (turns_left l q) ≡ true
+
+both_parts : (x y : Bool) → (x && y) ≡ true → (x ≡ true) × (y ≡ true)
+both_parts true true e = (refl, refl)
+both_parts true false e = absurd (cc)
+both_parts false y e = absurd (cc)
+
+allowed_at : (ls : List Loop) (q : List ℕ) (j : ℕ) → each_allows ls q j ≡ true → AllowsAt ls q j
+allowed_at [] q j h k l is = absurd (cc is)
+allowed_at (x ∷ ls) q j h zero l is =
+    let same : x ≡ l = cc in
+    subst (λ (y : Loop). allows y j (turns_left y q) ≡ true) same (both_parts (allows x j (turns_left x q)) (each_allows ls q j) h).0
+allowed_at (x ∷ ls) q j h (suc k) l is = allowed_at ls q j (both_parts (allows x j (turns_left x q)) (each_allows ls q j) h).1 k l is
+
+all_allowed : (ls : List Loop) (q : List ℕ) (j : ℕ) → AllowsAt ls q j → each_allows ls q j ≡ true
+all_allowed [] q j h = refl
+all_allowed (x ∷ ls) q j h = λ i. h 0 x refl i && all_allowed ls q j (λ k l is. h (suc k) l is) i
+
+pub each_by_number : (ls : List Loop) (q : List ℕ) (j : ℕ) → (each_allows ls q j ≡ true) ↔ ((k : ℕ) (l : Loop) → slice_get ls k ≡ Some l → allows l j (turns_left l q) ≡ true)
+each_by_number ls q j = (allowed_at ls q j, all_allowed ls q j)

@@ -1,8 +1,8 @@
 -- What a node of a program's graph does is found by the name of its block.
-use Rattle.std.proofs.Common.{◌≡◌, ℕ, zero, suc, ◌+◌, Bool, true, false, if◌then◌else◌, List, [], ◌∷◌, ◌++◌, length, Option, Some, None, refl, sym, ap, ◌∙◌, subst, arith}
+use Rattle.std.proofs.Common.{◌≡◌, ◌≢◌, ◌<◌, ◌≤◌, ℕ, zero, suc, ◌+◌, Bool, true, false, if◌then◌else◌, List, [], ◌∷◌, ◌++◌, length, Option, Some, None, refl, sym, ap, ◌∙◌, subst, arith}
 use Rattle.std.specs.Prelude.{slice_get}
+use Rattle.std.proofs.lemmas.Bool.{lt-ltb, le-ltb}
 use Rattle.std.proofs.lemmas.List.{length-append}
-use Rattle.c_tree.specs.declared.tree.Ty.{Ty}
 use Rattle.c_tree.specs.declared.tree.Expr.{Expr}
 use Rattle.c_tree.specs.declared.tree.Target.{Target}
 use Rattle.c_tree.specs.declared.tree.Stmt.{Stmt, Row_of-Stmt, end_of-Stmt, more_of-Stmt, Held-Stmt-For-1, None', Some'}
@@ -12,9 +12,9 @@ use Rattle.c_tree.specs.declared.program.Func.{Func}
 use Rattle.c_tree.specs.declared.program.Program.{Program}
 use Rattle.c_tree.specs.Blocks.{is_simple, begun, blocks, row_blocks, held_blocks}
 use Rattle.c_tree.specs.Statements.{block}
-use Rattle.flow_laws.specs.Sites.{Content, Test, Entry, Exit, Simple, Jump, Give, Enter, Missing, Land, Site, Copy, Position, Targets, flow, row_flow, held_flow, list_flow, size, row_size, held_size, list_size, call_sites, flush, one, asks, head, past, with_next, body_of, times_as_often, loop_at}
+use Rattle.flow_laws.specs.Sites.{Content, Entry, Exit, Simple, Jump, Give, Enter, Missing, Land, Site, call_of, Copy, Position, Targets, flow, row_flow, held_flow, list_flow, size, row_size, held_size, list_size, call_sites, flush, one, asks, head, past, with_next, body_of, times_as_often, loop_at}
 use Rattle.flow_laws.specs.Graphs.{copies, copy_of, sites_of, graph, all_to, outermost}
-use Rattle.flow_laws.specs.BlockLists.{Block, Run, Asks, Jumps, Gives, Calls, block_of_run, blocks_of_stmt, blocks_of_row, blocks_of_held, blocks_of_list, blocks_of_body, blocks_of_func, locals_of, LandsOf, result_of_func, Suits}
+use Rattle.flow_laws.specs.BlockLists.{Block, Run, Asks, Jumps, Gives, Calls, block_of_run, blocks_of_stmt, blocks_of_row, blocks_of_held, blocks_of_list, blocks_in, blocks_of_func, plain as loopless, entered as called, block_content, result_of_func, landed, landing_content, bare_content}
 
 -- ---- parts of a list
 
@@ -130,31 +130,14 @@ many_of x = row_many [] x ∙ plain (row_blocks x false)
 
 -- ---- sites
 
--- a landing has the target and the result type of its call
-abbrev pub IsLandingIn : Program → Content → Type 0
-IsLandingIn p (Land t ty b) = LandsOf p t ty b
-IsLandingIn p _ = Unit {0}
+-- the function has the block, which says what is done
+abbrev Named : Program → Content → ℕ → ℕ → Type 0
+Named p c k m = (x : Block) × (slice_get (blocks_of_func p k) m ≡ Some x) × (loopless c ≡ block_content p k (Some x))
 
--- what suits a block is no landing
-suits_no_landing : (p : Program) (x : Block) (c : Content) → Suits p x c → IsLandingIn p c
-suits_no_landing p (Run ss) (Land t ty b) h = absurd h
-suits_no_landing p (Asks e) (Land t ty b) h = absurd h
-suits_no_landing p Jumps (Land t ty b) h = absurd h
-suits_no_landing p (Gives e) (Land t ty b) h = absurd h
-suits_no_landing p (Calls u g es) (Land t ty b) h = absurd h
-suits_no_landing p x Entry h = tt
-suits_no_landing p x Exit h = tt
-suits_no_landing p x (Simple ss) h = tt
-suits_no_landing p x (Test l e) h = tt
-suits_no_landing p x Jump h = tt
-suits_no_landing p x (Give e) h = tt
-suits_no_landing p x (Enter t ls es) h = tt
-suits_no_landing p x Missing h = tt
-
--- the block of the site, if it has one, is found by its name, and the site does what it says
+-- what the site does is told by its block, and where it has none, by the block of its call
 pub record Found (p : Program) (s : Site) : Type 0 where
-  pub each : (k m : ℕ) → s.node.block ≡ Some (block k m) → (x : Block) × (slice_get (blocks_of_func p k) m ≡ Some x) × Suits p x s.content
-  pub lands : IsLandingIn p s.content
+  pub named : (k m : ℕ) → s.node.block ≡ Some (block k m) → Named p s.content k m
+  pub bare : s.node.block ≡ None → s.content ≡ landing_content p (call_of s.content)
 
 abbrev pub AllFound : Program → List Site → Type 0
 AllFound p [] = Unit {0}
@@ -171,24 +154,24 @@ found_at p (x ∷ g) h zero s is =
     subst (Found p) same h.0
 found_at p (x ∷ g) h (suc n) s is = found_at p g h.1 n s is
 
+clash : (k m : ℕ) → None ≡ Some (block k m) → ⊥
+clash k m h = absurd (cc)
+
 -- a site of this block
-own : (p : Program) (s : Site) (f b : ℕ) (x : Block) → s.node.block ≡ Some (block f b) → slice_get (blocks_of_func p f) b ≡ Some x → Suits p x s.content → Found p s
-own p s f b x is has suits = record {
-  each = λ k m e.
+own : (p : Program) (s : Site) (f b : ℕ) (x : Block) → s.node.block ≡ Some (block f b) → slice_get (blocks_of_func p f) b ≡ Some x → loopless s.content ≡ block_content p f (Some x) → Found p s
+own p s f b x is has does = record {
+  named = λ k m e.
       let both : Some (block f b) ≡ Some (block k m) = sym is ∙ e in
       let same : block f b ≡ block k m = cc both in
       let funcs : f ≡ k = ap (λ (n : BlockName). n.func) same in
       let numbers : b ≡ m = ap (λ (n : BlockName). n.number) same in
-      (x, subst (λ m. slice_get (blocks_of_func p k) m ≡ Some x) numbers (subst (λ k. slice_get (blocks_of_func p k) b ≡ Some x) funcs has), suits);
-  lands = suits_no_landing p x s.content suits;
+      subst (Named p s.content k) numbers (subst (λ y. Named p s.content y b) funcs (x, has, does));
+  bare = λ e. absurd (clash f b (sym e ∙ is));
 }
 
 -- a site without a block
-no_block : (p : Program) (s : Site) → s.node.block ≡ None → IsLandingIn p s.content → Found p s
-no_block p s is lands = record { each = λ k m e. absurd (clash k m (sym is ∙ e)); lands = lands }
-  where
-    clash : (k m : ℕ) → None ≡ Some (block k m) → ⊥
-    clash k m h = absurd (cc h)
+no_block : (p : Program) (s : Site) → s.node.block ≡ None → s.content ≡ landing_content p (call_of s.content) → Found p s
+no_block p s is does = record { named = λ k m e. absurd (clash k m (sym is ∙ e)); bare = λ e. does }
 
 flush_found : (p : Program) (w : Position) (ss : List Stmt) (b t : ℕ) → Sits (blocks_of_func p w.func) b (block_of_run ss) → AllFound p (flush w ss (block w.func b) t)
 flush_found p w [] b t h = tt
@@ -196,8 +179,10 @@ flush_found p w (s ∷ ss) b t h = (own p (one w (Simple (s ∷ ss)) (Some (bloc
 
 -- a copy of the function number k
 pub record FoundCopy (p : Program) (k : ℕ) (c : Copy) : Type 0 where
-  pub locals : locals_of (slice_get p.funcs k) ≡ c.locals
-  pub result : result_of_func (slice_get p.funcs k) ≡ c.result
+  pub func : Func
+  pub is : slice_get p.funcs k ≡ Some func
+  pub locals_are : func.locals ≡ c.locals
+  pub result_is : func.result ≡ c.result
   pub sites : (chain : List BlockName) (scale n landing : ℕ) → AllFound p (c.sites chain scale n landing)
 
 -- copies of the functions from the number k on
@@ -236,10 +221,34 @@ copies_append p k (x ∷ cs) c h f = (h.0, copies_append p (suc k) cs c h.1 (sub
     next : (k n : ℕ) → k + suc n ≡ suc k + n
     next k n = omega arith
 
-call_found : (p : Program) (w : Position) (g : ℕ) (o : Option Copy) (t : Target) (es : List Expr) (b n next : ℕ) → FoundOne p g o → slice_get (blocks_of_func p w.func) b ≡ Some (Calls t g es) → AllFound p (call_sites w o t es (block w.func b) n next)
-call_found p w g None t es b n next h has = (own p (one w Missing (Some (block w.func b)) (n + 1)) w.func b (Calls t g es) refl has tt, (no_block p (one w Missing None next) refl tt, tt))
-call_found p w g (Some c) t es b n next h has =
-    (own p (one w (Enter t c.locals es) (Some (block w.func b)) (head c.size (n + 1) (n + 1 + c.size))) w.func b (Calls t g es) refl has (refl, h.locals, refl), all_append p (c.sites (w.chain ++ block w.func b ∷ []) w.scale (n + 1) (n + 1 + c.size)) (one w (Land t c.result (block w.func b)) None next ∷ []) (h.sites (w.chain ++ block w.func b ∷ []) w.scale (n + 1) (n + 1 + c.size)) (no_block p (one w (Land t c.result (block w.func b)) None next) refl (record { callee = g; arguments = es; is_call = has; result_is = h.result }), tt))
+-- the copies of all functions above the number k
+pub record Over (p : Program) (k : ℕ) (cs : List Copy) : Type 0 where
+  pub copies : FoundCopies p 0 cs
+  pub count : length cs ≡ k
+
+-- whether the function number g is above the number f
+abbrev Reach : Option Copy → ℕ → ℕ → Type 0
+Reach None g f = f ≤ g
+Reach (Some c) g f = g < f
+
+one_further : (o : Option Copy) (g m f : ℕ) → suc m ≡ f → Reach o g m → Reach o (suc g) f
+one_further None g m f e h = omega (arith, e, h)
+one_further (Some c) g m f e h = omega (arith, e, h)
+
+reach : (cs : List Copy) (g f : ℕ) → length cs ≡ f → Reach (slice_get cs g) g f
+reach [] g f e = omega (arith, e)
+reach (c ∷ cs) zero f e = omega (arith, e)
+reach (c ∷ cs) (suc g) f e = one_further (slice_get cs g) g (length cs) f e (reach cs g (length cs) refl)
+
+call_found : (p : Program) (w : Position) (g : ℕ) (o : Option Copy) (t : Target) (es : List Expr) (b n next : ℕ) → FoundOne p g o → Reach o g w.func → slice_get (blocks_of_func p w.func) b ≡ Some (Calls t g es) → AllFound p (call_sites w o t es (block w.func b) n next)
+call_found p w g None t es b n next h r has =
+    let no : Missing ≡ block_content p w.func (Some (Calls t g es)) = sym (ap (λ a. if a then called (slice_get p.funcs g) t es else Missing) (le-ltb g w.func r)) in
+    (own p (one w Missing (Some (block w.func b)) (n + 1)) w.func b (Calls t g es) refl has no, (no_block p (one w Missing None next) refl refl, tt))
+call_found p w g (Some c) t es b n next h r has =
+    let name : BlockName = block w.func b in
+    let yes : Enter t c.locals es ≡ block_content p w.func (Some (Calls t g es)) = ap (λ ls. Enter t ls es) (sym h.locals_are) ∙ ap (λ o. called o t es) (sym h.is) ∙ sym (ap (λ a. if a then called (slice_get p.funcs g) t es else Missing) (lt-ltb g w.func r)) in
+    let lands : Land t c.result name ≡ landing_content p (Some name) = ap (λ y. Land t y name) (sym h.result_is) ∙ ap (λ o. Land t (result_of_func o) name) (sym h.is) ∙ ap (landed p name) (sym has) in
+    (own p (one w (Enter t c.locals es) (Some (block w.func b)) (head c.size (n + 1) (n + 1 + c.size))) w.func b (Calls t g es) refl has yes, all_append p (c.sites (w.chain ++ block w.func b ∷ []) w.scale (n + 1) (n + 1 + c.size)) (one w (Land t c.result name) None next ∷ []) (h.sites (w.chain ++ block w.func b ∷ []) w.scale (n + 1) (n + 1 + c.size)) (no_block p (one w (Land t c.result name) None next) refl lands, tt))
 
 -- a list goes on with a simple statement or with another one
 either_found : (p : Program) (whole : List Block) (b : ℕ) (t : Bool) (xs ys : List Block) (g h : List Site) → (Sits whole b xs → AllFound p g) → (t ≡ false → Sits whole b ys → AllFound p h) → Sits whole b (if t then xs else ys) → AllFound p (if t then g else h)
@@ -249,14 +258,14 @@ either_found p whole b false xs ys g h f k s = k refl s
 mutual
   unfolding flow row_flow held_flow blocks_of_stmt blocks_of_row blocks_of_held
 
-  flow_found : (p : Program) (cs : List Copy) (w : Position) (s : Stmt) (b n : ℕ) (k : Targets) → FoundCopies p 0 cs → Sits (blocks_of_func p w.func) b (blocks_of_stmt s) → AllFound p (flow cs w s b n k)
+  flow_found : (p : Program) (cs : List Copy) (w : Position) (s : Stmt) (b n : ℕ) (k : Targets) → Over p w.func cs → Sits (blocks_of_func p w.func) b (blocks_of_stmt s) → AllFound p (flow cs w s b n k)
   flow_found p cs w stmt.Empty b n k f h = tt
   flow_found p cs w (stmt.Scalar l e) b n k f h = tt
   flow_found p cs w (stmt.Array l es) b n k f h = tt
   flow_found p cs w (stmt.Assign x o e) b n k f h = tt
-  flow_found p cs w (stmt.Call t g es) b n k f h = call_found p w g (slice_get cs g) t es b n k.next (callee p cs g f) (sits_first (blocks_of_func p w.func) b (Calls t g es) [] h)
-  flow_found p cs w stmt.Break b n k f h = (own p (one w Jump (Some (block w.func b)) k.breaks) w.func b Jumps refl (sits_first (blocks_of_func p w.func) b Jumps [] h) tt, tt)
-  flow_found p cs w stmt.Continue b n k f h = (own p (one w Jump (Some (block w.func b)) k.continues) w.func b Jumps refl (sits_first (blocks_of_func p w.func) b Jumps [] h) tt, tt)
+  flow_found p cs w (stmt.Call t g es) b n k f h = call_found p w g (slice_get cs g) t es b n k.next (callee p cs g f.copies) (reach cs g w.func f.count) (sits_first (blocks_of_func p w.func) b (Calls t g es) [] h)
+  flow_found p cs w stmt.Break b n k f h = (own p (one w Jump (Some (block w.func b)) k.breaks) w.func b Jumps refl (sits_first (blocks_of_func p w.func) b Jumps [] h) refl, tt)
+  flow_found p cs w stmt.Continue b n k f h = (own p (one w Jump (Some (block w.func b)) k.continues) w.func b Jumps refl (sits_first (blocks_of_func p w.func) b Jumps [] h) refl, tt)
   flow_found p cs w (stmt.Return e) b n k f h = (own p (one w (Give e) (Some (block w.func b)) k.returns) w.func b (Gives e) refl (sits_first (blocks_of_func p w.func) b (Gives e) [] h) refl, tt)
   flow_found p cs w (stmt.If' e a x d y) b n k f h =
       let whole : List Block = blocks_of_func p w.func in
@@ -285,7 +294,7 @@ mutual
       all_append p (held_flow cs w i b n (with_next k m)) (site ∷ (step ++ body)) (held_found p cs w i b n (with_next k m) f (sits_front whole b (blocks_of_held i) (Asks e ∷ (blocks_of_held j ++ blocks_of_row [] x)) h)) (own p site w.func bc (Asks e) refl (sits_first whole bc (Asks e) (blocks_of_held j ++ blocks_of_row [] x) test) refl, all_append p step body (held_found p cs inside j (bc + 1) (m + 1) (with_next k m) f (sits_front whole (bc + 1) (blocks_of_held j) (blocks_of_row [] x) rest)) (row_found p cs inside x (bc + 1 + held_blocks j) (m + 1 + r) [] (body_of k (head r (m + 1) m)) f (sits_back whole (bc + 1) (bc + 1 + held_blocks j) (blocks_of_held j) (blocks_of_row [] x) (ap (λ m. bc + 1 + m) (held_many j)) rest)))
   flow_found p cs w (stmt.Group' a x) b n k f h = row_found p cs w x b n [] k f h
 
-  row_found : {m : _} (p : Program) (cs : List Copy) (w : Position) (x : Row_of-Stmt m) (b n : ℕ) (ss : List Stmt) (k : Targets) → FoundCopies p 0 cs → Sits (blocks_of_func p w.func) b (blocks_of_row ss x) → AllFound p (row_flow cs w x b n ss k)
+  row_found : {m : _} (p : Program) (cs : List Copy) (w : Position) (x : Row_of-Stmt m) (b n : ℕ) (ss : List Stmt) (k : Targets) → Over p w.func cs → Sits (blocks_of_func p w.func) b (blocks_of_row ss x) → AllFound p (row_flow cs w x b n ss k)
   row_found p cs w end_of-Stmt b n ss k f h = flush_found p w ss b k.next h
   row_found p cs w (more_of-Stmt s rest) b n ss k f h =
       let whole : List Block = blocks_of_func p w.func in
@@ -299,13 +308,13 @@ mutual
       let later : Sits whole (past ss b) (blocks_of_stmt s ++ blocks_of_row [] rest) = sits_back whole b (past ss b) (block_of_run ss) (blocks_of_stmt s ++ blocks_of_row [] rest) (past_by ss b) g in
       all_append p first (second ++ third) (flush_found p w ss b (head (size cs s false) n1 after) (sits_front whole b (block_of_run ss) (blocks_of_stmt s ++ blocks_of_row [] rest) g)) (all_append p second third (flow_found p cs w s (past ss b) n1 (with_next k after) f (sits_front whole (past ss b) (blocks_of_stmt s) (blocks_of_row [] rest) later)) (row_found p cs w rest (past ss b + blocks s false) n2 [] k f (sits_back whole (past ss b) (past ss b + blocks s false) (blocks_of_stmt s) (blocks_of_row [] rest) (ap (λ m. past ss b + m) (many s false e)) later)))) h
 
-  held_found : (p : Program) (cs : List Copy) (w : Position) (x : Held-Stmt-For-1) (b n : ℕ) (k : Targets) → FoundCopies p 0 cs → Sits (blocks_of_func p w.func) b (blocks_of_held x) → AllFound p (held_flow cs w x b n k)
+  held_found : (p : Program) (cs : List Copy) (w : Position) (x : Held-Stmt-For-1) (b n : ℕ) (k : Targets) → Over p w.func cs → Sits (blocks_of_func p w.func) b (blocks_of_held x) → AllFound p (held_flow cs w x b n k)
   held_found p cs w None' b n k f h = tt
   held_found p cs w (Some' a x) b n k f h = row_found p cs w x b n [] k f h
 
 -- ---- functions
 
-list_found : (p : Program) (cs : List Copy) (w : Position) (xs : List Stmt) (b n : ℕ) (ss : List Stmt) (k : Targets) → FoundCopies p 0 cs → Sits (blocks_of_func p w.func) b (blocks_of_list ss xs) → AllFound p (list_flow cs w xs b n ss k)
+list_found : (p : Program) (cs : List Copy) (w : Position) (xs : List Stmt) (b n : ℕ) (ss : List Stmt) (k : Targets) → Over p w.func cs → Sits (blocks_of_func p w.func) b (blocks_of_list ss xs) → AllFound p (list_flow cs w xs b n ss k)
 list_found p cs w [] b n ss k f h = flush_found p w ss b k.next h
 list_found p cs w (s ∷ rest) b n ss k f h =
     let whole : List Block = blocks_of_func p w.func in
@@ -320,15 +329,17 @@ list_found p cs w (s ∷ rest) b n ss k f h =
     all_append p first (second ++ third) (flush_found p w ss b (head (size cs s false) n1 after) (sits_front whole b (block_of_run ss) (blocks_of_stmt s ++ blocks_of_list [] rest) g)) (all_append p second third (flow_found p cs w s (past ss b) n1 (with_next k after) f (sits_front whole (past ss b) (blocks_of_stmt s) (blocks_of_list [] rest) later)) (list_found p cs w rest (past ss b + blocks s false) n2 [] k f (sits_back whole (past ss b) (past ss b + blocks s false) (blocks_of_stmt s) (blocks_of_list [] rest) (ap (λ m. past ss b + m) (many s false e)) later)))) h
 
 -- the function number k of the program
-copy_found : (p : Program) (cs : List Copy) (k : ℕ) (f : Func) → FoundCopies p 0 cs → slice_get p.funcs k ≡ Some f → FoundCopy p k (copy_of k f cs)
+copy_found : (p : Program) (cs : List Copy) (k : ℕ) (f : Func) → Over p k cs → slice_get p.funcs k ≡ Some f → FoundCopy p k (copy_of k f cs)
 copy_found p cs k f h is = record {
-  locals = ap locals_of is;
-  result = ap result_of_func is;
-  sites = λ chain scale n landing. list_found p cs (record { func = k; chain = chain; scale = scale }) f.body 0 n [] (all_to landing) h (record { each = λ j x has. ap (slice_get (blocks_of_func p k)) (plain j) ∙ (ap (λ o. slice_get (blocks_of_body o) j) is ∙ has) });
+  func = f;
+  is = is;
+  locals_are = refl;
+  result_is = refl;
+  sites = λ chain scale n landing. list_found p cs (record { func = k; chain = chain; scale = scale }) f.body 0 n [] (all_to landing) h (record { each = λ j x has. ap (slice_get (blocks_of_func p k)) (plain_sum j) ∙ (ap (λ o. slice_get (blocks_in o) j) is ∙ has) });
 }
   where
-    plain : (j : ℕ) → 0 + j ≡ j
-    plain j = omega arith
+    plain_sum : (j : ℕ) → 0 + j ≡ j
+    plain_sum j = omega arith
 
 -- the functions from here on are those of the program after the copies
 pub record FollowOn (p : Program) (n : ℕ) (fs : List Func) : Type 0 where
@@ -338,7 +349,7 @@ copies_found : (p : Program) (cs : List Copy) (fs : List Func) → FoundCopies p
 copies_found p cs [] h f = h
 copies_found p cs (x ∷ fs) h f =
     let c : Copy = copy_of (length cs) x cs in
-    copies_found p (cs ++ c ∷ []) fs (copies_append p 0 cs c h (subst (λ k. FoundCopy p k c) (plain (length cs)) (copy_found p cs (length cs) x h (ap (slice_get p.funcs) (none (length cs)) ∙ f.each 0 x refl)))) (record { each = λ j y is. ap (slice_get p.funcs) (next (length cs) j (length (cs ++ c ∷ [])) (length-append cs (c ∷ []))) ∙ f.each (suc j) y is })
+    copies_found p (cs ++ c ∷ []) fs (copies_append p 0 cs c h (subst (λ k. FoundCopy p k c) (plain (length cs)) (copy_found p cs (length cs) x (record { copies = h; count = refl }) (ap (slice_get p.funcs) (none (length cs)) ∙ f.each 0 x refl)))) (record { each = λ j y is. ap (slice_get p.funcs) (next (length cs) j (length (cs ++ c ∷ [])) (length-append cs (c ∷ []))) ∙ f.each (suc j) y is })
   where
     plain : (n : ℕ) → n ≡ 0 + n
     plain n = omega arith
@@ -349,19 +360,65 @@ copies_found p cs (x ∷ fs) h f =
     next : (n j m : ℕ) → m ≡ n + 1 → m + j ≡ n + suc j
     next n j m e = omega arith
 
-entry_found : (p : Program) (k : ℕ) (o : Option Copy) → FoundOne p k o → AllFound p (sites_of o)
-entry_found p k None h = (no_block p (one outermost Missing None 1) refl tt, tt)
-entry_found p k (Some c) h = (no_block p (one outermost Entry None (head c.size 2 1)) refl tt, (no_block p (one outermost Exit None 1) refl tt, h.sites [] 1 2 1))
-
-graph_found : (p : Program) → AllFound p (graph p)
-unfolding graph
-graph_found p = entry_found p p.entry (slice_get (copies [] p.funcs) p.entry) (callee p (copies [] p.funcs) p.entry (copies_found p [] p.funcs tt (record { each = λ j f is. ap (slice_get p.funcs) (plain j) ∙ is })))
+all_copies : (p : Program) → FoundCopies p 0 (copies [] p.funcs)
+all_copies p = copies_found p [] p.funcs tt (record { each = λ j f is. ap (slice_get p.funcs) (plain_sum j) ∙ is })
   where
-    plain : (j : ℕ) → 0 + j ≡ j
-    plain j = omega arith
+    plain_sum : (j : ℕ) → 0 + j ≡ j
+    plain_sum j = omega arith
 
-pub blocks_found : (p : Program) (n : ℕ) (s : Site) (k m : ℕ) → slice_get (graph p) n ≡ Some s → s.node.block ≡ Some (block k m) → (x : Block) × (slice_get (blocks_of_func p k) m ≡ Some x) × Suits p x s.content
-blocks_found p n s k m is has = (found_at p (graph p) (graph_found p) n s is).each k m has
+-- ---- nodes
 
-pub landings_found : (p : Program) (n : ℕ) (s : Site) (t : Target) (ty : Option Ty) (b : BlockName) → slice_get (graph p) n ≡ Some s → s.content ≡ Land t ty b → LandsOf p t ty b
-landings_found p n s t ty b is content = subst (IsLandingIn p) content (found_at p (graph p) (graph_found p) n s is).lands
+-- a node told by its block
+named_in : (p : Program) (k i : ℕ) (o : Option Copy) (n : ℕ) (s : Site) (m : ℕ) → FoundOne p k o → slice_get (sites_of o) n ≡ Some s → s.node.block ≡ Some (block i m) → Named p s.content i m
+named_in p k i None zero s m f is has =
+    let site : Site = one outermost Missing None 1 in
+    let same : site ≡ s = cc in
+    absurd (clash i m (ap (λ (x : Site). x.node.block) same ∙ has))
+named_in p k i None (suc n) s m f is has = absurd (cc is)
+named_in p k i (Some c) zero s m f is has =
+    let site : Site = one outermost Entry None (head c.size 2 1) in
+    let same : site ≡ s = cc in
+    absurd (clash i m (ap (λ (x : Site). x.node.block) same ∙ has))
+named_in p k i (Some c) (suc zero) s m f is has =
+    let site : Site = one outermost Exit None 1 in
+    let same : site ≡ s = cc in
+    absurd (clash i m (ap (λ (x : Site). x.node.block) same ∙ has))
+named_in p k i (Some c) (suc (suc n)) s m f is has = (found_at p (c.sites [] 1 2 1) (f.sites [] 1 2 1) n s is).named i m has
+
+entry_copy : (p : Program) → FoundOne p p.entry (slice_get (copies [] p.funcs) p.entry)
+entry_copy p = callee p (copies [] p.funcs) p.entry (all_copies p)
+
+pub blocks_found : (p : Program) (n : ℕ) (s : Site) (k m : ℕ) → slice_get (graph p) n ≡ Some s → s.node.block ≡ Some (block k m) → (x : Block) × (slice_get (blocks_of_func p k) m ≡ Some x) × (loopless s.content ≡ block_content p k (Some x))
+unfolding graph
+blocks_found p n s k m is has = named_in p p.entry k (slice_get (copies [] p.funcs) p.entry) n s m (entry_copy p) is has
+
+-- a node without a block
+bare_in : (p : Program) (k : ℕ) (o : Option Copy) (n : ℕ) (s : Site) → o ≢ None → FoundOne p k o → slice_get (sites_of o) n ≡ Some s → s.node.block ≡ None → s.content ≡ bare_content p n (call_of s.content)
+bare_in p k None n s some f is none = absurd (some refl)
+bare_in p k (Some c) zero s some f is none =
+    let site : Site = one outermost Entry None (head c.size 2 1) in
+    let same : site ≡ s = cc in
+    ap (λ (x : Site). x.content) (sym same)
+bare_in p k (Some c) (suc zero) s some f is none =
+    let site : Site = one outermost Exit None 1 in
+    let same : site ≡ s = cc in
+    ap (λ (x : Site). x.content) (sym same)
+bare_in p k (Some c) (suc (suc n)) s some f is none = (found_at p (c.sites [] 1 2 1) (f.sites [] 1 2 1) n s is).bare none
+
+-- as many copies as functions
+many_copies : (cs : List Copy) (fs : List Func) → length (copies cs fs) ≡ length cs + length fs
+many_copies cs [] = omega arith
+many_copies cs (f ∷ fs) =
+    let c : Copy = copy_of (length cs) f cs in
+    omega (arith, many_copies (cs ++ c ∷ []) fs, length-append cs (c ∷ []))
+
+there : (cs : List Copy) (k : ℕ) → k < length cs → slice_get cs k ≢ None
+there [] k lt none = omega (arith, lt)
+there (c ∷ cs) zero lt none = cc
+there (c ∷ cs) (suc k) lt none = there cs k (omega (arith, lt)) none
+
+pub bare_found : (p : Program) (n : ℕ) (s : Site) → p.entry < length p.funcs → slice_get (graph p) n ≡ Some s → s.node.block ≡ None → s.content ≡ bare_content p n (call_of s.content)
+unfolding graph
+bare_found p n s within is none =
+    let lt : p.entry < length (copies [] p.funcs) = omega (arith, within, many_copies [] p.funcs) in
+    bare_in p p.entry (slice_get (copies [] p.funcs) p.entry) n s (there (copies [] p.funcs) p.entry lt) (entry_copy p) is none

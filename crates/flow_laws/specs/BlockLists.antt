@@ -1,17 +1,16 @@
--- The blocks of a function, in the order of their numbers, with their statements: what is found of a node by the name
--- of its block. This project's own.
-use Rattle.std.specs.Prelude.{◌≡◌, ℕ, if◌then◌else◌, List, [], ◌∷◌, ◌++◌, slice_get, Option, Some, None}
+-- The blocks of a function, in the order of their numbers, with their statements, and what they tell of what a node
+-- does. This project's own.
+use Rattle.std.specs.Prelude.{ℕ, zero, suc, nat_lt, if◌then◌else◌, List, [], ◌∷◌, ◌++◌, slice_get, Option, Some, None}
 use Rattle.c_tree.specs.declared.tree.Ty.{Ty}
 use Rattle.c_tree.specs.declared.tree.Expr.{Expr}
 use Rattle.c_tree.specs.declared.tree.Target.{Target}
 use Rattle.c_tree.specs.declared.tree.Stmt.{Stmt, Row_of-Stmt, end_of-Stmt, more_of-Stmt, Held-Stmt-For-1, None', Some'}
 use Rattle.c_tree.specs.declared.tree.Stmt.TheVariants.{Empty, Scalar, Array, Assign, Call, Break, Continue, Return, If', While', Do', For', Group'}
 use Rattle.c_tree.specs.declared.program.BlockName.{BlockName}
-use Rattle.c_tree.specs.declared.program.Local.{Local}
 use Rattle.c_tree.specs.declared.program.Func.{Func}
 use Rattle.c_tree.specs.declared.program.Program.{Program}
 use Rattle.c_tree.specs.Blocks.{is_simple}
-use Rattle.flow_laws.specs.Sites.{Content, Simple, Test, Jump, Give, Enter, Missing}
+use Rattle.flow_laws.specs.Sites.{Content, Entry, Exit, Simple, Test, Jump, Give, Enter, Missing, Land}
 
 -- a block: a run of simple statements, a condition, a jump, a `return` or a call
 pub data Block : Type 0 where
@@ -58,35 +57,65 @@ blocks_of_list ss [] = block_of_run ss
 blocks_of_list ss (s ∷ rest) =
     if is_simple s then blocks_of_list (ss ++ s ∷ []) rest else block_of_run ss ++ (blocks_of_stmt s ++ blocks_of_list [] rest)
 
--- the blocks of a function of the program
-abbrev pub blocks_of_body : Option Func → List Block
-blocks_of_body None = []
-blocks_of_body (Some f) = blocks_of_list [] f.body
+-- the blocks of a function
+abbrev pub blocks_of_body : Func → List Block
+blocks_of_body f = blocks_of_list [] f.body
 
+abbrev pub blocks_in : Option Func → List Block
+blocks_in None = []
+blocks_in (Some f) = blocks_of_body f
+
+-- those of the function number k of the program
 abbrev pub blocks_of_func : Program → ℕ → List Block
-blocks_of_func p k = blocks_of_body (slice_get p.funcs k)
+blocks_of_func p k = blocks_in (slice_get p.funcs k)
 
-abbrev pub locals_of : Option Func → List Local
-locals_of None = []
-locals_of (Some f) = f.locals
+-- the block of a name, if the program has it
+abbrev pub block_at : Program → BlockName → Option Block
+block_at p b = slice_get (blocks_of_func p b.func) b.number
+
+-- ---- what a node does, told by its block
+
+-- without the loop of a condition, which acting does not look at
+abbrev pub plain : Content → Content
+plain Entry = Entry
+plain Exit = Exit
+plain (Simple ss) = Simple ss
+plain (Test l e) = Test None e
+plain Jump = Jump
+plain (Give e) = Give e
+plain (Enter t ls es) = Enter t ls es
+plain Missing = Missing
+plain (Land t ty b) = Land t ty b
+
+-- a call of this function
+abbrev pub entered : Option Func → Target → List Expr → Content
+entered None t es = Missing
+entered (Some f) t es = Enter t f.locals es
+
+-- a copy of a block of the function number k, from which those above it can be called
+abbrev pub block_content : Program → ℕ → Option Block → Content
+block_content p k None = Missing
+block_content p k (Some (Run ss)) = Simple ss
+block_content p k (Some (Asks e)) = Test None e
+block_content p k (Some Jumps) = Jump
+block_content p k (Some (Gives e)) = Give e
+block_content p k (Some (Calls t g es)) = if nat_lt g k then entered (slice_get p.funcs g) t es else Missing
 
 abbrev pub result_of_func : Option Func → Option Ty
 result_of_func None = None
 result_of_func (Some f) = f.result
 
--- a node does what its block says
-abbrev pub Suits : Program → Block → Content → Type 0
-Suits p (Run ss) (Simple ts) = ss ≡ ts
-Suits p (Asks e) (Test l d) = e ≡ d
-Suits p Jumps Jump = Unit {0}
-Suits p (Gives e) (Give d) = e ≡ d
-Suits p (Calls t g es) (Enter u ls ds) = (t ≡ u) × (locals_of (slice_get p.funcs g) ≡ ls) × (es ≡ ds)
-Suits p (Calls t g es) Missing = Unit {0}
-Suits p _ _ = ⊥
+-- the landing of the call that is the block of this name: it has the call's target, and the type of the callee's result
+abbrev pub landed : Program → BlockName → Option Block → Content
+landed p b (Some (Calls t g es)) = Land t (result_of_func (slice_get p.funcs g)) b
+landed p b _ = Missing
 
--- a landing has the target of its call, which is the block of this name, and the type of the callee's result
-pub record LandsOf (p : Program) (target : Target) (ty : Option Ty) (call : BlockName) : Type 0 where
-  pub callee : ℕ
-  pub arguments : List Expr
-  pub is_call : slice_get (blocks_of_func p call.func) call.number ≡ Some (Calls target callee arguments)
-  pub result_is : result_of_func (slice_get p.funcs callee) ≡ ty
+abbrev pub landing_content : Program → Option BlockName → Content
+landing_content p None = Missing
+landing_content p (Some b) = landed p b (block_at p b)
+
+-- the node number n, which is no copy of a block; of a landing with the block of its call
+abbrev pub bare_content : Program → ℕ → Option BlockName → Content
+bare_content p zero c = Entry
+bare_content p (suc zero) c = Exit
+bare_content p (suc (suc n)) c = landing_content p c

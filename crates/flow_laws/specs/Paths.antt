@@ -7,6 +7,7 @@ use Rattle.c_tree.specs.declared.program.Costs.{Costs}
 use Rattle.c_tree.specs.Claims.{block_cost}
 use Rattle.flow_laws.specs.declared.graph.Edge.{Edge}
 use Rattle.flow_laws.specs.declared.graph.Loop.{Loop}
+use Rattle.flow_laws.specs.declared.graph.Way.{Way}
 use Rattle.flow_laws.specs.Sites.{Site}
 use Rattle.flow_laws.specs.Graphs.{edges}
 
@@ -29,6 +30,10 @@ follows es q = is_some (led es 0 q)
 -- the number is that of an edge that leaves the node
 abbrev pub IsEdgeFrom : List Edge → ℕ → ℕ → Type 0
 IsEdgeFrom es n j = (e : Edge) × (slice_get es j ≡ Some e) × (e.from ≡ n)
+
+-- the number is that of an edge that leaves by this way
+abbrev pub LeavesBy : List Edge → ℕ → Way → Type 0
+LeavesBy es j way = (e : Edge) × (slice_get es j ≡ Some e) × (e.way ≡ way)
 
 -- it leads from Entry into Exit
 abbrev pub IsPath : List Edge → List ℕ → Type 0

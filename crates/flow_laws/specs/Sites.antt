@@ -40,6 +40,11 @@ pub record Site : Type 0 where
   pub yes : ℕ
   pub no : ℕ
 
+-- the block of a landing's call
+abbrev pub call_of : Content → Option BlockName
+call_of (Land t ty b) = Some b
+call_of _ = None
+
 -- where a list of statements leads: by its end, `break`, `continue` and `return`
 pub record Targets : Type 0 where
   pub next : ℕ

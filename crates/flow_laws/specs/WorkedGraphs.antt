@@ -11,7 +11,7 @@ use Rattle.c_tree.specs.Worked.{num, local, sets, counts, declares, returns, fun
 use Rattle.flow_laws.specs.declared.graph.Way.TheVariants.{Next, True, False}
 use Rattle.flow_laws.specs.declared.graph.Edge.{Edge}
 use Rattle.flow_laws.specs.declared.graph.Loop.{Loop}
-use Rattle.flow_laws.specs.Sites.{LoopCopy, Content, Land}
+use Rattle.flow_laws.specs.Sites.{LoopCopy, call_of}
 use Rattle.flow_laws.specs.Graphs.{leaves, graph, nodes}
 
 -- ---- parts
@@ -46,10 +46,6 @@ abbrev pub caps_of : Program → List ℕ
 caps_of p = map (λ n. n.cap) (nodes (graph p))
 
 -- the call of each landing
-abbrev pub call_of : Content → Option BlockName
-call_of (Land t ty b) = Some b
-call_of _ = None
-
 abbrev pub calls_of : Program → List (Option BlockName)
 calls_of p = map (λ s. call_of s.content) (graph p)
 

@@ -2,7 +2,7 @@
 use Rattle.std.proofs.Common.{◌≡◌, refl}
 use Rattle.flow_laws.specs.Sites.{Content, Entry, Exit, Simple, Test, Jump, Give, Enter, Missing, Land}
 use Rattle.flow_laws.specs.Driving.{Memory, act}
-use Rattle.node_contents.specs.Contents.{plain}
+use Rattle.flow_laws.specs.BlockLists.{plain}
 
 pub acting : (c : Content) (m : Memory) → act (plain c) m ≡ act c m
 acting Entry m = refl

@@ -1,6 +1,5 @@
-pub mod PieceLayers
+pub mod BlockLayers
 mod Gathered
-pub mod Found
 mod Tabled
 mod Telling
 mod Acting

@@ -4,13 +4,12 @@ use Rattle.std.specs.Prelude.{slice_get}
 use Rattle.c_tree.specs.declared.program.BlockName.{BlockName}
 use Rattle.c_tree.specs.declared.program.Program.{Program}
 use Rattle.flow_laws.specs.declared.graph.Node.{Node}
-use Rattle.flow_laws.specs.Sites.{Content, Site}
+use Rattle.flow_laws.specs.Sites.{Content, Site, call_of}
 use Rattle.flow_laws.specs.Graphs.{graph, nodes}
+use Rattle.flow_laws.specs.BlockLists.{Block, Run, Asks, Jumps, Gives, Calls, block_at, plain, block_content, landed, landing_content, bare_content}
+use Rattle.flow_laws.proofs.FoundBlocks.{blocks_found, bare_found}
 use Rattle.flow_graph.specs.Landings.{calls}
-use Rattle.flow_graph.specs.Spots.{call_of}
-use Rattle.node_contents.specs.Pieces.{piece_at}
-use Rattle.node_contents.specs.Contents.{plain, contents, block_content, bare_content}
-use Rattle.node_contents.proofs.Found.{told}
+use Rattle.node_contents.specs.Contents.{contents}
 
 record SiteOf (g : List Site) (n : ℕ) (nd : Node) : Type 0 where
   site : Site
@@ -32,14 +31,32 @@ call_is [] n s h = absurd (cc)
 call_is (x ∷ g) zero s h = let same : x ≡ s = cc in ap (λ (y : Site). Some (call_of y.content)) same
 call_is (x ∷ g) (suc n) s h = call_is g n s h
 
-pub named_content : (p : Program) (n : ℕ) (nd : Node) (b : BlockName) (x : Content) → p.entry < length p.funcs → slice_get (nodes (graph p)) n ≡ Some nd → nd.block ≡ Some b → x ≡ block_content p b.func (piece_at p b.func b.number) → slice_get (contents (graph p)) n ≡ Some x
-named_content p n nd b x within h is does =
+pub named_content : (p : Program) (n : ℕ) (nd : Node) (b : BlockName) (x : Content) → slice_get (nodes (graph p)) n ≡ Some nd → nd.block ≡ Some b → x ≡ block_content p b.func (block_at p b) → slice_get (contents (graph p)) n ≡ Some x
+named_content p n nd b x h is does =
     let r = site_of (graph p) n nd h in
-    let t = told p n r.site within r.is in
-    content_at (graph p) n r.site r.is ∙ ap Some (t.named b (ap (λ (y : Node). y.block) r.node_is ∙ is) ∙ sym does)
+    let found = blocks_found p n r.site b.func b.number r.is (ap (λ (y : Node). y.block) r.node_is ∙ is) in
+    content_at (graph p) n r.site r.is ∙ ap Some (found.2 ∙ ap (block_content p b.func) (sym found.1) ∙ sym does)
+
+-- a landing has no condition, and nor has what is no copy of a block
+landed_plain : (p : Program) (b : BlockName) (o : Option Block) → plain (landed p b o) ≡ landed p b o
+landed_plain p b None = refl
+landed_plain p b (Some (Run ss)) = refl
+landed_plain p b (Some (Asks e)) = refl
+landed_plain p b (Some Jumps) = refl
+landed_plain p b (Some (Gives e)) = refl
+landed_plain p b (Some (Calls t g es)) = refl
+
+landing_plain : (p : Program) (c : Option BlockName) → plain (landing_content p c) ≡ landing_content p c
+landing_plain p None = refl
+landing_plain p (Some b) = landed_plain p b (block_at p b)
+
+bare_plain : (p : Program) (n : ℕ) (c : Option BlockName) → plain (bare_content p n c) ≡ bare_content p n c
+bare_plain p zero c = refl
+bare_plain p (suc zero) c = refl
+bare_plain p (suc (suc n)) c = landing_plain p c
 
 pub bare_node : (p : Program) (n : ℕ) (nd : Node) (x : Content) → p.entry < length p.funcs → slice_get (nodes (graph p)) n ≡ Some nd → nd.block ≡ None → ((call : Option BlockName) → slice_get (calls (graph p)) n ≡ Some call → x ≡ bare_content p n call) → slice_get (contents (graph p)) n ≡ Some x
 bare_node p n nd x within h is does =
     let r = site_of (graph p) n nd h in
-    let t = told p n r.site within r.is in
-    content_at (graph p) n r.site r.is ∙ ap Some (t.bare (ap (λ (y : Node). y.block) r.node_is ∙ is) ∙ sym (does (call_of r.site.content) (call_is (graph p) n r.site r.is)))
+    let found = bare_found p n r.site within r.is (ap (λ (y : Node). y.block) r.node_is ∙ is) in
+    content_at (graph p) n r.site r.is ∙ ap Some (ap plain found ∙ bare_plain p n (call_of r.site.content) ∙ sym (does (call_of r.site.content) (call_is (graph p) n r.site r.is)))

@@ -3,7 +3,8 @@
 ghost use Rattle.std.specs.Prelude.{◌≡◌, ◌++◌, ◌∷◌, [], false, map, IfOk};
 ghost use Rattle.c_tree.specs.Blocks.{is_simple};
 ghost use Rattle.c_tree.specs.Statements.{held};
-ghost use Rattle.node_contents.specs.Pieces.{what, what_of, run_piece, pieces, list_pieces, func_pieces};
+ghost use Rattle.flow_laws.specs.BlockLists.{block_of_run, blocks_of_stmt, blocks_of_list, blocks_of_body};
+ghost use Rattle.node_contents.specs.Contents.{what, what_of};
 
 use crate::block::Block;
 use c_semantics::is_simple;
@@ -17,7 +18,7 @@ pub(crate) fn blocks_of<'p>(
     alloc: Global,
     funcs: &'p [Func],
 ) -> Result<Items<Items<Block<'p>>>, NoMemory>
-    ensures { IfOk result (λ all. what_of all ≡ map func_pieces funcs.now) }
+    ensures { IfOk result (λ all. what_of all ≡ map blocks_of_body funcs.now) }
 {
     let mut all = Items::new(alloc);
     for func in funcs {
@@ -37,7 +38,7 @@ fn put<'p>(block: Block<'p>, out: &mut Items<Block<'p>>) -> Result<(), NoMemory>
 
 // A run of simple statements, if it has one.
 fn put_run<'p>(run: &'p [Stmt], out: &mut Items<Block<'p>>) -> Result<(), NoMemory>
-    ensures { IfOk result (λ u. map what out.new ≡ map what out.old ++ run_piece run.now) }
+    ensures { IfOk result (λ u. map what out.new ≡ map what out.old ++ block_of_run run.now) }
 {
     if run.is_empty() {
         Ok(())
@@ -49,7 +50,7 @@ fn put_run<'p>(run: &'p [Stmt], out: &mut Items<Block<'p>>) -> Result<(), NoMemo
 // The blocks of a list.
 #[cycle(gather)]
 fn gather_list<'p>(list: &'p [Stmt], out: &mut Items<Block<'p>>) -> Result<(), NoMemory>
-    ensures { IfOk result (λ u. map what out.new ≡ map what out.old ++ list_pieces [] list.now) }
+    ensures { IfOk result (λ u. map what out.new ≡ map what out.old ++ blocks_of_list [] list.now) }
 {
     let mut begun = 0;
     for at in 0..list.len() {
@@ -69,7 +70,7 @@ fn gather_held<'p>(
     stmt: &'p Option<Boxed<Stmt>>,
     out: &mut Items<Block<'p>>,
 ) -> Result<(), NoMemory>
-    ensures { IfOk result (λ u. map what out.new ≡ map what out.old ++ list_pieces [] (held stmt.now)) }
+    ensures { IfOk result (λ u. map what out.new ≡ map what out.old ++ blocks_of_list [] (held stmt.now)) }
 {
     match stmt {
         None => Ok(()),
@@ -86,10 +87,10 @@ fn gather_held<'p>(
 
 // The blocks of a statement that is not simple.
 #[cycle(gather)]
-#[tactic(auto, using(crate::proofs::PieceLayers::piece_layers))]
+#[tactic(auto, using(crate::proofs::BlockLayers::block_layers))]
 fn gather<'p>(stmt: &'p Stmt, out: &mut Items<Block<'p>>) -> Result<(), NoMemory>
     requires { is_simple stmt.now ≡ false }
-    ensures { IfOk result (λ u. map what out.new ≡ map what out.old ++ pieces stmt.now) }
+    ensures { IfOk result (λ u. map what out.new ≡ map what out.old ++ blocks_of_stmt stmt.now) }
 {
     match stmt {
         Stmt::Group(list) => gather_list(list.as_slice(), out),

@@ -7,5 +7,5 @@ mod law;
 mod table;
 
 pub use block::Content;
-pub use law::{acting_needs_no_loop, blocks_are_found};
+pub use law::acting_needs_no_loop;
 pub use table::{Contents, contents_of};

@@ -4,8 +4,8 @@ ghost use Rattle.std.specs.Prelude.{◌≡◌, ◌<◌, Option, Some, length, sl
 ghost use Rattle.std.specs.Option.{option_copied};
 ghost use Rattle.c_tree.specs.declared.program.BlockName as spec;
 ghost use Rattle.flow_laws.specs.Graphs.{graph};
-ghost use Rattle.node_contents.specs.Contents.{content_of, contents, block_content, bare_content, landing_content, entered, result_in};
-ghost use Rattle.node_contents.specs.Pieces.{what, piece_at};
+ghost use Rattle.flow_laws.specs.BlockLists.{block_at, block_content, bare_content, landing_content, entered, result_of_func};
+ghost use Rattle.node_contents.specs.Contents.{content_of, contents, what};
 ghost use Rattle.flow_graph.specs.Landings.{calls};
 
 use crate::block::{Block, Content};
@@ -64,7 +64,7 @@ impl<'p> Contents<'p> {
 
     // The block of a name.
     fn block(&self, name: BlockName) -> Option<Block<'p>>
-        ensures { option_map what result ≡ piece_at self.now.program name.func name.number }
+        ensures { option_map what result ≡ block_at self.now.program name }
     {
         let blocks = self.blocks.get(name.func as usize)?;
         blocks.get(name.number as usize).copied()
@@ -79,7 +79,7 @@ impl<'p> Contents<'p> {
 
     // What a node with this block does.
     fn of_block(&self, name: BlockName) -> Content<'p>
-        ensures { content_of result ≡ block_content self.now.program name.func (piece_at self.now.program name.func name.number) }
+        ensures { content_of result ≡ block_content self.now.program name.func (block_at self.now.program name) }
     {
         match self.block(name) {
             Some(Block::Run(statements)) => Content::Simple(statements),
@@ -138,7 +138,7 @@ impl<'p> Contents<'p> {
 
     // The type of a function's result.
     fn result(&self, number: u32) -> Option<Ty>
-        ensures { result ≡ result_in (slice_get self.now.program.funcs number) }
+        ensures { result ≡ result_of_func (slice_get self.now.program.funcs number) }
     {
         match self.func(number) {
             Some(func) => func.result,

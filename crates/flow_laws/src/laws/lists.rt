@@ -35,11 +35,13 @@ pub fn lists_go_on()
 {}
 
 /// A list with one edge more keeps a loop's bound exactly where the list does and the turns that are left allow the
-/// edge; and so for several loops. What keeps their bounds begins with lists that do.
+/// edge; and so for several loops, which allow it exactly where each of them does. What keeps their bounds begins with lists that do.
 pub fn bounds_go_on()
     ensures left { (l : Loop) (q : List ℕ) (j : ℕ) → turns_left l (q ++ j ∷ []) ≡ turns_left_on l j (turns_left l q) }
     ensures one { (l : Loop) (q : List ℕ) (j : ℕ) → keeps l (q ++ j ∷ []) ≡ (keeps l q && allows l j (turns_left l q)) }
     ensures each { (ls : List Loop) (q : List ℕ) (j : ℕ) → keeps_each ls (q ++ j ∷ [])
         ≡ (keeps_each ls q && each_allows ls q j) }
+    ensures by_number { (ls : List Loop) (q : List ℕ) (j : ℕ) → (each_allows ls q j ≡ true)
+        ↔ ((k : ℕ) (l : Loop) → slice_get ls k ≡ Some l → allows l j (turns_left l q) ≡ true) }
     ensures begin { (ls : List Loop) (a b : List ℕ) → keeps_each ls (a ++ b) ≡ true → keeps_each ls a ≡ true }
 {}

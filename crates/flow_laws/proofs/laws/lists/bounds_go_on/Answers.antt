@@ -1,5 +1,5 @@
 use Rattle.flow_laws.proofs.laws.lists.bounds_go_on.Goals as goal
-use Rattle.flow_laws.proofs.BoundsOn.{left_on, keeps_on, each_on, each_begin}
+use Rattle.flow_laws.proofs.BoundsOn.{left_on, keeps_on, each_on, each_begin, each_by_number}
 
 pub returns-clause-left : goal.returns-clause-left
 returns-clause-left c = left_on
@@ -9,6 +9,9 @@ returns-clause-one c = keeps_on
 
 pub returns-clause-each : goal.returns-clause-each
 returns-clause-each c = each_on
+
+pub returns-clause-by_number : goal.returns-clause-by_number
+returns-clause-by_number c = each_by_number
 
 pub returns-clause-begin : goal.returns-clause-begin
 returns-clause-begin c = each_begin

@@ -10,9 +10,8 @@ pub returns-in-Some : goal.returns-in-Some
 returns-in-Some c =
     let n = c.args.n in
     let nd = c.node.result.now in
-    let within = subst (λ (y : Planned). y.program.entry < length y.program.funcs) c.self.view_is c.program.ensures.formed.entry in
     let at = subst (λ (y : Planned). slice_get (nodes (graph y.program)) n ≡ Some nd) c.self.view_is c.node.ensures.value in
-    named_content c.args.self.now.program n nd c.in-Some.block (content_of c.of_block.result) within at c.in-Some.is c.of_block.ensures
+    named_content c.args.self.now.program n nd c.in-Some.block (content_of c.of_block.result) at c.in-Some.is c.of_block.ensures
 
 pub returns-in-None : goal.returns-in-None
 returns-in-None c =
