@@ -13,16 +13,13 @@ use cond_laws::Judged;
 use sqlite_items::Items;
 use std::alloc::Global;
 
-/// How many terms a store has at most; one that is full wants memory.
-const MOST_TERMS: usize = 4_294_967_294;
-
 /// Puts an operator and gives its number. It refuses for want of memory alone, also where the store is full; the store then has
 /// the terms that it had.
 pub fn put(terms: &mut Terms, op: Op) -> Result<u32, NoMemory>
     requires { FitsOp (length terms.old.inputs) (length terms.old.ops) op }
     ensures { IfOk result (λ t. Gives Below (script.put op) terms.old terms.new t) }
 {
-    if terms.len() >= MOST_TERMS {
+    if terms.len() == u32::MAX {
         return Err(NoMemory);
     }
     terms.put(op)
