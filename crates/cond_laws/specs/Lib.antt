@@ -1,0 +1,10 @@
+pub mod Judged
+pub mod TermOperators
+pub mod TermStores
+pub mod TermExpressions
+pub mod TermStatements
+pub mod TermPaths
+pub mod Conditions
+pub mod Fits
+pub mod Sizes
+pub mod Weights
