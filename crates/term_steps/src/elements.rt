@@ -37,11 +37,7 @@ pub fn held_ty(slot: Option<&TermSlot>) -> Ty
 }
 
 /// A scalar, which is undefined where it is unset.
-pub fn named(
-    alloc: Global,
-    terms: &mut Terms,
-    slot: Option<&TermSlot>,
-) -> Result<Judged, NoMemory>
+pub fn named(alloc: Global, terms: &mut Terms, slot: Option<&TermSlot>) -> Result<Judged, NoMemory>
     requires { FitHeld (length terms.old.ops) (option_copied slot) }
     ensures { IfOk result (λ j. Gives FitJudged (spec.named (option_copied slot.entry)) terms.old terms.new j) }
 {
@@ -135,11 +131,7 @@ fn no_element(terms: &mut Terms, ty: Ty, at: Judged) -> Result<Judged, NoMemory>
 }
 
 /// `a[at]`, which is undefined outside the array.
-pub fn element(
-    terms: &mut Terms,
-    slot: Option<&TermSlot>,
-    at: Judged,
-) -> Result<Judged, NoMemory>
+pub fn element(terms: &mut Terms, slot: Option<&TermSlot>, at: Judged) -> Result<Judged, NoMemory>
     requires slot_in { FitHeld (length terms.old.ops) (option_copied slot) }
     requires at_in { FitJudged (length terms.old.ops) at }
     ensures { IfOk result (λ j. Gives FitJudged (spec.element (option_copied slot.entry) at) terms.old terms.new j) }

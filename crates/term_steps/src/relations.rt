@@ -54,13 +54,7 @@ fn is_less(alloc: Global, terms: &mut Terms, ty: Ty, a: u32, b: u32) -> Result<J
 }
 
 /// `a >= b`.
-fn is_not_less(
-    alloc: Global,
-    terms: &mut Terms,
-    ty: Ty,
-    a: u32,
-    b: u32,
-) -> Result<Judged, NoMemory>
+fn is_not_less(alloc: Global, terms: &mut Terms, ty: Ty, a: u32, b: u32) -> Result<Judged, NoMemory>
     requires a_in { a < length terms.old.ops }
     requires b_in { b < length terms.old.ops }
     ensures { IfOk result (λ j. Gives FitJudged (spec.negated (spec.less ty a b)) terms.old terms.new j) }
