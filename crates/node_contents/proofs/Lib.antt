@@ -3,3 +3,4 @@ mod Gathered
 mod Tabled
 mod Telling
 mod Acting
+pub mod WorkedContents

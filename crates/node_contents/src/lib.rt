@@ -7,5 +7,5 @@ mod law;
 mod table;
 
 pub use block::Content;
-pub use law::acting_needs_no_loop;
+pub use law::{acting_needs_no_loop, worked_contents};
 pub use table::{Contents, contents_of};
