@@ -1,5 +1,5 @@
 -- Operators over operands that have conditions: these come before those of the operator.
-use Rattle.std.proofs.Common.{◌≡◌, ◌≤◌, ℕ, List, [], ◌∷◌, ◌++◌, Option, Some, length, sym, ap, subst, arith}
+use Rattle.std.proofs.Common.{◌≡◌, ◌<◌, ◌≤◌, ◌^◌, ℕ, List, [], ◌∷◌, ◌++◌, Option, Some, None, length, refl, sym, ap, subst, arith}
 use Rattle.c_tree.specs.declared.tree.Ty.{Ty}
 use Rattle.c_tree.specs.declared.tree.Ty.TheVariants as ty
 use Rattle.c_tree.specs.Values.{common}
@@ -7,17 +7,17 @@ use Rattle.bv_term.specs.declared.op.Op.TheVariants as op
 use Rattle.bv_term.specs.Stores.{Terms}
 use Rattle.bv_term.specs.Scripts.{Script, Done, put, ◌>>=◌}
 use Rattle.cond_laws.specs.declared.store.TermSlot.{TermSlot}
-use Rattle.cond_laws.specs.declared.store.TermSlot.TheVariants.{Numbers}
+use Rattle.cond_laws.specs.declared.store.TermSlot.TheVariants.{Unset, Number, Numbers}
 use Rattle.cond_laws.specs.declared.value.Judged.{Judged}
 use Rattle.cond_laws.specs.Judged.{given, also}
 use Rattle.cond_laws.specs.TermOperators as spec
-use Rattle.cond_laws.specs.TermStores.{picked, within, element}
+use Rattle.cond_laws.specs.TermStores.{held_ty, picked, within, element}
 use Rattle.cond_laws.specs.Conditions.{AllBelow}
-use Rattle.cond_laws.specs.Fits.{Below, FitJudged}
+use Rattle.cond_laws.specs.Fits.{Below, FitHeld, FitJudged}
 use Rattle.cond_laws.proofs.OperandFits.{below_append}
 use Rattle.term_steps.specs.Gives.{Gives}
 use Rattle.term_steps.proofs.Runs.{gives_then, gives_done}
-use Rattle.term_steps.specs.Parts.{both_value, either_value, array_element, no_element}
+use Rattle.term_steps.specs.Parts.{array_in, both_value, either_value, array_element, no_element}
 use Rattle.term_steps.proofs.Growing.{below_stays}
 
 pub also_given : {k : ℕ} {s : Script Judged} {old new : Terms} {value : Judged} (cs ds : List ℕ) → Gives FitJudged s old new value → AllBelow k cs → k ≤ length old.ops → ds ≡ cs ++ value.conditions → Gives FitJudged (s >>= (λ j. Done (also cs j))) old new (record { ty = value.ty; term = value.term; conditions = ds })
@@ -74,5 +74,27 @@ no_element_given {old = old} {new = new} {z = z} t e ds h f es =
     let all : AllBelow (length new.ops) (e.conditions ++ z ∷ []) = below_append (length new.ops) e.conditions (z ∷ []) (below_stays e.conditions f.conditions h.grows) (h.fits, tt) in
     subst (λ (ds : List ℕ). Gives FitJudged (no_element t e) old new (given t z ds)) (sym es) (gives_done FitJudged (λ z. given t z (e.conditions ++ z ∷ [])) h (record { term = h.fits; conditions = all }))
 
-pub element_read : {o : Option TermSlot} {t : Ty} {ns : List ℕ} {old new : Terms} {j : Judged} (e : Judged) → o ≡ Some (Numbers t ns) → Gives FitJudged (array_element t ns e) old new j → Gives FitJudged (element o e) old new j
-element_read {old = old} {new = new} {j = j} e is h = subst (λ (o : Option TermSlot). Gives FitJudged (element o e) old new j) (sym is) h
+-- an array that has elements, and what is none
+pub array_is : (o : Option TermSlot) (ns : List ℕ) → array_in o ≡ Some ns → o ≡ Some (Numbers (held_ty o) ns)
+array_is None ns h = absurd (cc h)
+array_is (Some (Unset t)) ns h = absurd (cc h)
+array_is (Some (Number t n)) ns h = absurd (cc h)
+array_is (Some (Numbers t ms)) ns h = cc h
+
+-- its elements are there, and few
+pub array_there : (k : ℕ) (o : Option TermSlot) (ns : List ℕ) → array_in o ≡ Some ns → FitHeld k o → (AllBelow k ns) × (length ns < 2 ^ 32)
+array_there k o ns e h = subst (λ (o : Option TermSlot). FitHeld k o) (array_is o ns e) h
+
+pub element_read : {t : Ty} {old new : Terms} {j : Judged} (o : Option TermSlot) (ns : List ℕ) (e : Judged) → array_in o ≡ Some ns → t ≡ held_ty o → Gives FitJudged (array_element t ns e) old new j → Gives FitJudged (element o e) old new j
+element_read {old = old} {new = new} {j = j} o ns e is same h =
+    subst (λ (o : Option TermSlot). Gives FitJudged (element o e) old new j) (sym (array_is o ns is)) (subst (λ (t : Ty). Gives FitJudged (array_element t ns e) old new j) same h)
+
+none_is : (o : Option TermSlot) (e : Judged) → array_in o ≡ None → element o e ≡ no_element (held_ty o) e
+none_is None e h = refl
+none_is (Some (Unset t)) e h = refl
+none_is (Some (Number t n)) e h = refl
+none_is (Some (Numbers t ns)) e h = absurd (cc h)
+
+pub no_element_read : {t : Ty} {old new : Terms} {j : Judged} (o : Option TermSlot) (e : Judged) → array_in o ≡ None → t ≡ held_ty o → Gives FitJudged (no_element t e) old new j → Gives FitJudged (element o e) old new j
+no_element_read {old = old} {new = new} {j = j} o e is same h =
+    subst (λ (s : Script Judged). Gives FitJudged s old new j) (sym (none_is o e is)) (subst (λ (t : Ty). Gives FitJudged (no_element t e) old new j) same h)

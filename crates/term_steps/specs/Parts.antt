@@ -1,9 +1,11 @@
 -- Scripts that several operators share. This project's own.
-use Rattle.std.specs.Prelude.{ℕ, ◌^◌, List, [], ◌∷◌, ◌++◌, length}
+use Rattle.std.specs.Prelude.{ℕ, ◌^◌, List, [], ◌∷◌, ◌++◌, length, Option, Some, None}
 use Rattle.c_tree.specs.declared.tree.Ty.{Ty}
 use Rattle.bv_term.specs.declared.op.Op.TheVariants as op
 use Rattle.bv_term.specs.Scripts.{Script, put, pure, ◌>>=◌}
 use Rattle.cond_laws.specs.declared.value.Judged.{Judged}
+use Rattle.cond_laws.specs.declared.store.TermSlot.{TermSlot}
+use Rattle.cond_laws.specs.declared.store.TermSlot.TheVariants.{Unset, Number, Numbers}
 use Rattle.cond_laws.specs.Judged.{given}
 use Rattle.cond_laws.specs.TermStores.{picked, within}
 
@@ -40,3 +42,10 @@ array_element t ns e =
 
 abbrev pub no_element : Ty → Judged → Script Judged
 no_element t e = do z ← put (op.Const 0); pure (given t z (e.conditions ++ z ∷ []))
+
+-- the elements of an array that has them
+abbrev pub array_in : Option TermSlot → Option (List ℕ)
+array_in None = None
+array_in (Some (Unset t)) = None
+array_in (Some (Number t n)) = None
+array_in (Some (Numbers t ns)) = Some ns

@@ -5,7 +5,7 @@ ghost use Rattle.cond_laws.specs.TermStores as spec;
 ghost use Rattle.cond_laws.specs.Conditions.{AllBelow};
 ghost use Rattle.cond_laws.specs.Fits.{Below, FitHeld, FitJudged};
 ghost use Rattle.term_steps.specs.Gives.{Gives};
-ghost use Rattle.term_steps.specs.Parts.{array_element, no_element, one_pick};
+ghost use Rattle.term_steps.specs.Parts.{array_element, array_in, no_element, one_pick};
 
 use crate::putting::{never, put, sure};
 use bv_term::{Op, Terms};
@@ -36,6 +36,18 @@ pub fn held_ty(slot: Option<&TermSlot>) -> Ty
     }
 }
 
+/// The elements of a slot that is an array and has them.
+pub fn array_in(slot: Option<&TermSlot>) -> Option<&Items<u32>>
+    ensures { option_copied result ≡ array_in (option_copied slot.entry) }
+{
+    match slot {
+        None => None,
+        Some(TermSlot::Unset(_)) => None,
+        Some(TermSlot::Number(_, _)) => None,
+        Some(TermSlot::Numbers(_, elements)) => Some(elements),
+    }
+}
+
 /// A scalar, which is undefined where it is unset.
 pub fn named(alloc: Global, terms: &mut Terms, slot: Option<&TermSlot>) -> Result<Judged, NoMemory>
     requires { FitHeld (length terms.old.ops) (option_copied slot) }
@@ -49,8 +61,8 @@ pub fn named(alloc: Global, terms: &mut Terms, slot: Option<&TermSlot>) -> Resul
     }
 }
 
-// The element at `index` where the index is that one, and else `other`.
-fn one_pick(
+/// `element` where the index `at` is the number `index`, and else `other`.
+pub fn one_pick(
     terms: &mut Terms,
     at: u32,
     index: u32,
@@ -136,10 +148,9 @@ pub fn element(terms: &mut Terms, slot: Option<&TermSlot>, at: Judged) -> Result
     requires at_in { FitJudged (length terms.old.ops) at }
     ensures { IfOk result (λ j. Gives FitJudged (spec.element (option_copied slot.entry) at) terms.old terms.new j) }
 {
-    match slot {
-        Some(TermSlot::Numbers(ty, elements)) => element_of(terms, *ty, elements, at),
-        None => no_element(terms, Ty::Int, at),
-        Some(TermSlot::Unset(ty)) => no_element(terms, *ty, at),
-        Some(TermSlot::Number(ty, _)) => no_element(terms, *ty, at),
+    let ty = held_ty(slot);
+    match array_in(slot) {
+        Some(elements) => element_of(terms, ty, elements, at),
+        None => no_element(terms, ty, at),
     }
 }

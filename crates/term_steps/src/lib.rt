@@ -9,7 +9,7 @@ mod operators;
 mod putting;
 mod relations;
 
-pub use elements::{element, held, held_ty, named, within};
+pub use elements::{array_in, element, held, held_ty, named, one_pick, within};
 pub use expressions::{all_exprs, expr};
 pub use operands::{joined, operated};
 pub use putting::put;

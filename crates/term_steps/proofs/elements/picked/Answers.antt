@@ -1,4 +1,4 @@
-use Rattle.std.proofs.Common.{rules, ◌≡◌, ◌<◌, ◌+◌, ℕ, List, length, drop, get_or, subst, arith}
+use Rattle.std.proofs.Common.{◌<◌, ◌+◌, ℕ, List, length, drop, subst, arith}
 use Rattle.cond_laws.specs.TermStores as spec
 use Rattle.term_steps.proofs.Runs.{Rest, rest_goes}
 use Rattle.term_steps.proofs.Growing.{below_at, split}

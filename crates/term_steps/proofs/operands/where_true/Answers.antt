@@ -1,4 +1,4 @@
-use Rattle.std.proofs.Common.{rules, ◌≡◌, ◌<◌, ◌+◌, ℕ, List, ◌∷◌, ◌++◌, length, drop, sym, ap, ◌∙◌, subst, arith}
+use Rattle.std.proofs.Common.{rules, ◌<◌, ◌+◌, ℕ, List, ◌∷◌, ◌++◌, length, drop, sym, ap, ◌∙◌, subst, arith}
 use Rattle.cond_laws.specs.TermOperators as spec
 use Rattle.term_steps.proofs.Runs.{Rest, rest_next, rest_joined, moved}
 use Rattle.term_steps.proofs.Growing.{below_at, below_pushed, split}
