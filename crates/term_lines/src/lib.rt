@@ -2,12 +2,12 @@
 //! answer.
 #![tactic(auto)]
 
-mod numbers;
 mod op;
 mod store;
+mod words;
 mod wrong;
 
-pub use numbers::numbers;
 pub use op::op_of;
 pub use store::{declared, over_words, put_each, put_named, words_without_inputs};
+pub use words::numbers;
 pub use wrong::Wrong;

@@ -3,7 +3,7 @@
 ghost use Rattle.std.specs.Prelude.{◌<◌, length};
 ghost use Rattle.bv_term.specs.Stores.{FitsOp};
 
-use crate::numbers::numbers;
+use crate::words::numbers;
 use crate::op::op_of;
 use crate::wrong::Wrong;
 use bv_term::{Op, Terms};
