@@ -3,8 +3,8 @@
 ghost use Rattle.std.specs.Prelude.{◌<◌, length};
 ghost use Rattle.bv_term.specs.Stores.{FitsOp};
 
-use crate::words::numbers;
 use crate::op::op_of;
+use crate::words::numbers;
 use crate::wrong::Wrong;
 use bv_term::{Op, Terms};
 use c_tree::Input;
