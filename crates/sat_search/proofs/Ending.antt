@@ -141,6 +141,9 @@ worked_end cnf log n working count = record {
 pub line_clauses : (lines : List LogLine) → All (λ (line : LogLine). IsClause line.clause) lines → AreClauses (map (λ (line : LogLine). line.clause) lines)
 line_clauses lines each = record { each = All-map IsClause (λ (line : LogLine). line.clause) lines each }
 
+pub final_clauses : (lines final : List LogLine) → All (λ (line : LogLine). IsClause line.clause) lines → final ≡ lines → AreClauses (map (λ (line : LogLine). line.clause) final)
+final_clauses lines final each is = rw is (line_clauses lines each)
+
 -- the empty line is one more
 pub refuted_clauses : (lines final : List LogLine) (line : LogLine) → All (λ (l : LogLine). IsClause l.clause) lines → line.clause ≡ [] → final ≡ lines ++ line ∷ [] → AreClauses (map (λ (l : LogLine). l.clause) final)
 refuted_clauses lines final line each empty is =

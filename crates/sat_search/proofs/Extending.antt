@@ -42,6 +42,7 @@ passes_end cnf s falsified i held inside is end passing =
 pub head_next : (cnf : Cnf) (s : Search) (n : ℕ) → n ≡ s.head + 1 → Holds cnf s → s.head < length s.trail.literals → AreGuarded (known_by cnf s) s.watches.pairs.items (take (s.head + 1) s.trail.literals) s.trail.literals → Holds cnf (record s { head = n })
 head_next cnf s n is held inside guarded = record {
   working = held.working;
+  stored = held.stored;
   variables = held.variables;
   sound = held.sound;
   counted = held.counted;

@@ -7,7 +7,7 @@ use Rattle.search_tables.specs.Trail.{literal_at}
 use Rattle.sat_search.specs.Sound.{last_start}
 use Rattle.search_tables.specs.Marking.{IsLow}
 use Rattle.sat_search.specs.Learning.{IsAsserting}
-use Rattle.sat_search.proofs.LearnedLemmas.{at_known, reasoned_where, conflict_low, start_step, first_least, reasoned_before, IsOfPlaces-one, IsAsserting-one, one_step}
+use Rattle.sat_search.proofs.LearnedLemmas.{at_known, reasoned_where, reasoned_behind, conflict_low, start_step, first_least, reasoned_before, IsOfPlaces-one, IsAsserting-one, one_step}
 use Rattle.sat_search.proofs.analysis.analyze.Goals as goal
 
 pub trace_level-requires-clause-below : goal.trace_level-requires-clause-below
@@ -21,6 +21,11 @@ trace_level-requires-clause-below c =
     let same : marks.from ≡ from = c.mark.ensures.more.from ∙ c.in_ok-marks.ensures.from in
     let low : IsLow literals marks.seen.items marks.from marks.low = c.mark.ensures.more.low (subst (λ f. IsLow literals c.in_ok-marks.marks.seen.items f c.in_ok-marks.marks.low) (sym c.in_ok-marks.ensures.from) c.in_ok-marks.ensures.none) in
     conflict_low literals marks.seen.items from marks.low clause conflict.0 conflict.1 c.mark.ensures.marked (subst (λ f. IsLow literals marks.seen.items f marks.low) same low)
+
+pub trace_level-requires-clause-reasoned : goal.trace_level-requires-clause-reasoned
+trace_level-requires-clause-reasoned c p late inside =
+    let same : c.mark.new.self.from ≡ last_start c.args.starts.now = c.mark.ensures.more.from ∙ c.in_ok-marks.ensures.from in
+    reasoned_behind c.args.known.now c.args.trail.now c.args.starts.now p c.requires.sound (omega (arith, late, same)) inside
 
 pub trace_level-requires-clause-traced : goal.trace_level-requires-clause-traced
 trace_level-requires-clause-traced c =
