@@ -25,7 +25,7 @@ masked-builds v G n c (x ∷ xs) some bc bx =
       scope = (IsBelow-later le2 pl.scope, pls.scope);
       wide = ap suc pls.wide;
       value = λ given.
-        ap (λ b. flag b + 2 * word_value v ls) (pl.value given) ∙ ap (λ k. flag (v c && v x) + 2 * k) (pls.value given) ∙ masked_step (v c) (v x) (word_value v xs);
+          ap (λ b. flag b + 2 * word_value v ls) (pl.value given) ∙ ap (λ k. flag (v c && v x) + 2 * k) (pls.value given) ∙ masked_step (v c) (v x) (word_value v xs);
     })))
 
 -- what a gate of two literals does at each bit, and what comes of that at numbers
@@ -36,8 +36,8 @@ pub record IsPairwise (v : ℤ → Bool) (n : ℕ) (g : ℤ → ℤ → Gate) (o
   pub more : (a b : Bool) (x y : ℕ) → flag (op a b) + 2 * f x y ≡ f (flag a + 2 * x) (flag b + 2 * y)
 
 pub pairwise-builds : (v : ℤ → Bool) (G : Type 0) (n m : ℕ) (g : ℤ → ℤ → Gate) (op : Bool → Bool → Bool) (f : ℕ → ℕ → ℕ) (xs ys : List ℤ)
-      → IsPairwise v n g op f → n ≤ m → 0 < m → Below m xs → Below m ys → length xs ≡ length ys
-      → Builds v G m (pairwise g xs ys) (IsWord v G (length xs) (f (word_value v xs) (word_value v ys)))
+    → IsPairwise v n g op f → n ≤ m → 0 < m → Below m xs → Below m ys → length xs ≡ length ys
+    → Builds v G m (pairwise g xs ys) (IsWord v G (length xs) (f (word_value v xs) (word_value v ys)))
 unfolding pairwise
 pairwise-builds v G n m g op f [] [] is le some bx by same = done-builds [] (record { scope = tt; wide = refl; value = λ given. sym is.none })
 pairwise-builds v G n m g op f [] (y ∷ ys) is le some bx by same = absurd (omega arith)
@@ -49,7 +49,7 @@ pairwise-builds v G n m g op f (x ∷ xs) (y ∷ ys) is le some bx by same =
       scope = (IsBelow-later le2 pl.scope, pls.scope);
       wide = ap suc pls.wide;
       value = λ given.
-        ap (λ b. flag b + 2 * word_value v ls) (pl.value given ∙ is.value x y) ∙ ap (λ k. flag (op (v x) (v y)) + 2 * k) (pls.value given) ∙ is.more (v x) (v y) (word_value v xs) (word_value v ys);
+          ap (λ b. flag b + 2 * word_value v ls) (pl.value given ∙ is.value x y) ∙ ap (λ k. flag (op (v x) (v y)) + 2 * k) (pls.value given) ∙ is.more (v x) (v y) (word_value v xs) (word_value v ys);
     })))
 
 chosen_step : (s a b : Bool) (x y : ℕ) → flag (cond s a b) + 2 * cond s x y ≡ cond s (flag a + 2 * x) (flag b + 2 * y)
@@ -61,12 +61,12 @@ none_chosen true x = refl
 none_chosen false x = refl
 
 pub choose-builds : (v : ℤ → Bool) (G : Type 0) (n : ℕ) (c : ℤ) (xs ys : List ℤ) → 0 < n → IsBelow n c → Below n xs → Below n ys → length xs ≡ length ys
-      → Builds v G n (choose c xs ys) (IsWord v G (length xs) (cond (v c) (word_value v xs) (word_value v ys)))
+    → Builds v G n (choose c xs ys) (IsWord v G (length xs) (cond (v c) (word_value v xs) (word_value v ys)))
 unfolding choose
 choose-builds v G n c xs ys some bc bx by same =
     pairwise-builds v G n n (gates.Choice c) (λ a b. cond (v c) a b) (λ x y. cond (v c) x y) xs ys
-      (record { scope = λ m x y le ix iy. (IsBelow-later le bc, (ix, (iy, tt))); value = λ x y. refl; none = none_chosen (v c) 0; more = chosen_step (v c) })
-      (omega arith) some bx by same
+    (record { scope = λ m x y le ix iy. (IsBelow-later le bc, (ix, (iy, tt))); value = λ x y. refl; none = none_chosen (v c) 0; more = chosen_step (v c) })
+    (omega arith) some bx by same
 
 and_bits : (a b : Bool) → bit_and (flag a) (flag b) ≡ flag (a && b)
 and_bits true true = refl
@@ -100,25 +100,25 @@ module _ (f : ℕ → ℕ → ℕ) (op : Bool → Bool → Bool) (blocks : (a b 
       block (op a b) (f x y) ∙ ap (λ k. f x y * 2 ^ 1 + k) (sym (bits a b)) ∙ sym (blocks x y (flag a) (flag b) (small a) (small b)) ∙ sym e
 
 pub and-builds : (v : ℤ → Bool) (G : Type 0) (n : ℕ) (xs ys : List ℤ) → 0 < n → Below n xs → Below n ys → length xs ≡ length ys
-      → Builds v G n (pairwise (λ l m. gates.And l m) xs ys) (IsWord v G (length xs) (bit_and (word_value v xs) (word_value v ys)))
+    → Builds v G n (pairwise (λ l m. gates.And l m) xs ys) (IsWord v G (length xs) (bit_and (word_value v xs) (word_value v ys)))
 and-builds v G n xs ys some bx by same =
     pairwise-builds v G n n (λ l m. gates.And l m) (λ a b. a && b) bit_and xs ys
-      (record { scope = λ m x y le ix iy. (ix, (iy, tt)); value = λ x y. refl; none = refl; more = by_blocks bit_and (λ a b. a && b) (and_block 1) and_bits })
-      (omega arith) some bx by same
+    (record { scope = λ m x y le ix iy. (ix, (iy, tt)); value = λ x y. refl; none = refl; more = by_blocks bit_and (λ a b. a && b) (and_block 1) and_bits })
+    (omega arith) some bx by same
 
 pub or-builds : (v : ℤ → Bool) (G : Type 0) (n : ℕ) (xs ys : List ℤ) → 0 < n → Below n xs → Below n ys → length xs ≡ length ys
-      → Builds v G n (pairwise (λ l m. gates.Or l m) xs ys) (IsWord v G (length xs) (bit_or (word_value v xs) (word_value v ys)))
+    → Builds v G n (pairwise (λ l m. gates.Or l m) xs ys) (IsWord v G (length xs) (bit_or (word_value v xs) (word_value v ys)))
 or-builds v G n xs ys some bx by same =
     pairwise-builds v G n n (λ l m. gates.Or l m) (λ a b. a || b) bit_or xs ys
-      (record { scope = λ m x y le ix iy. (ix, (iy, tt)); value = λ x y. refl; none = refl; more = by_blocks bit_or (λ a b. a || b) (or_block 1) or_bits })
-      (omega arith) some bx by same
+    (record { scope = λ m x y le ix iy. (ix, (iy, tt)); value = λ x y. refl; none = refl; more = by_blocks bit_or (λ a b. a || b) (or_block 1) or_bits })
+    (omega arith) some bx by same
 
 pub xor-builds : (v : ℤ → Bool) (G : Type 0) (n : ℕ) (xs ys : List ℤ) → 0 < n → Below n xs → Below n ys → length xs ≡ length ys
-      → Builds v G n (pairwise (λ l m. gates.Xor l m) xs ys) (IsWord v G (length xs) (bit_xor (word_value v xs) (word_value v ys)))
+    → Builds v G n (pairwise (λ l m. gates.Xor l m) xs ys) (IsWord v G (length xs) (bit_xor (word_value v xs) (word_value v ys)))
 xor-builds v G n xs ys some bx by same =
     pairwise-builds v G n n (λ l m. gates.Xor l m) either bit_xor xs ys
-      (record { scope = λ m x y le ix iy. (ix, (iy, tt)); value = λ x y. refl; none = refl; more = by_blocks bit_xor either (xor_block 1) xor_bits })
-      (omega arith) some bx by same
+    (record { scope = λ m x y le ix iy. (ix, (iy, tt)); value = λ x y. refl; none = refl; more = by_blocks bit_xor either (xor_block 1) xor_bits })
+    (omega arith) some bx by same
 
 -- ---- a bit over a whole word
 
@@ -165,7 +165,7 @@ differ_step false false true x y = grind (arith, nat_tests)
 differ_step false false false x y = grind (arith, nat_tests)
 
 pub differ-builds : (v : ℤ → Bool) (G : Type 0) (n : ℕ) (c : ℤ) (xs ys : List ℤ) → 0 < n → IsBelow n c → Below n xs → Below n ys → length xs ≡ length ys
-      → Builds v G n (differ c xs ys) (IsBit v G (v c || not (word_value v xs == word_value v ys)))
+    → Builds v G n (differ c xs ys) (IsBit v G (v c || not (word_value v xs == word_value v ys)))
 unfolding differ
 differ-builds v G n c [] [] some bc bx by same = done-builds c (record { scope = bc; value = λ given. sym (or_false (v c)) })
   where
@@ -180,5 +180,5 @@ differ-builds v G n c (x ∷ xs) (y ∷ ys) some bc bx by same =
     weaker-builds (differ-builds v G n2 e xs ys (omega arith) pe.scope (Below-later n n2 xs (omega arith) bx.1) (Below-later n n2 ys (omega arith) by.1) (omega arith)) (λ n3 le3 l pl. record {
       scope = pl.scope;
       value = λ given.
-        pl.value given ∙ ap (λ b. b || not (word_value v xs == word_value v ys)) (pe.value given ∙ ap (λ b. v c || b) (pd.value given)) ∙ differ_step (v c) (v x) (v y) (word_value v xs) (word_value v ys);
+          pl.value given ∙ ap (λ b. b || not (word_value v xs == word_value v ys)) (pe.value given ∙ ap (λ b. v c || b) (pd.value given)) ∙ differ_step (v c) (v x) (v y) (word_value v xs) (word_value v ys);
     })))

@@ -82,15 +82,17 @@ unfolding gate
 gate-builds g some below = record { built = λ holds. ((below, tt), record { scope = record { some = some; below = omega arith }; value = λ given. (holds given).0 }) }
 
 pub then-builds : {A B : Type 0} {v : ℤ → Bool} {G : Type 0} {n : ℕ} {c : Circuit A} {P : ℕ → A → Type 0} {Q : ℕ → B → Type 0} (f : A → Circuit B)
-      → Builds v G n c P → ((m : ℕ) → n ≤ m → (x : A) → P m x → Builds v G m (f x) Q) → Builds v G n (c >>= f) Q
+    → Builds v G n c P → ((m : ℕ) → n ≤ m → (x : A) → P m x → Builds v G m (f x) Q) → Builds v G n (c >>= f) Q
 unfolding ◌>>=◌
-then-builds {v = v} {n = n} {c = c} {Q = Q} f first then = record { built = λ holds.
-  let gs = (c n).gates in
-  let m = past n gs in
-  let hs = (f (c n).out m).gates in
-  let a = first.built (λ given. Holds-front v n gs hs (holds given)) in
-  let b = (then m (le-past n gs) (c n).out a.1).built (λ given. Holds-back v n gs hs (holds given)) in
-  (Scoped-append n gs hs a.0 b.0, subst (λ k. Q k (f (c n).out m).out) (sym (past-append n gs hs)) b.1) }
+then-builds {v = v} {n = n} {c = c} {Q = Q} f first then = record {
+  built = λ holds.
+      let gs = (c n).gates in
+      let m = past n gs in
+      let hs = (f (c n).out m).gates in
+      let a = first.built (λ given. Holds-front v n gs hs (holds given)) in
+      let b = (then m (le-past n gs) (c n).out a.1).built (λ given. Holds-back v n gs hs (holds given)) in
+      (Scoped-append n gs hs a.0 b.0, subst (λ k. Q k (f (c n).out m).out) (sym (past-append n gs hs)) b.1);
+}
 
 pub weaker-builds : {A : Type 0} {v : ℤ → Bool} {G : Type 0} {n : ℕ} {c : Circuit A} {P Q : ℕ → A → Type 0} → Builds v G n c P → ((m : ℕ) → n ≤ m → (x : A) → P m x → Q m x) → Builds v G n c Q
 weaker-builds {n = n} {c = c} first more = record { built = λ holds. let a = first.built holds in (a.0, more (past n (c n).gates) (le-past n (c n).gates) (c n).out a.1) }

@@ -147,7 +147,7 @@ both n [] h = (tt, tt)
 both n (c ∷ cs) h = let rest = both n cs h.1 in ((h.0.clause, rest.0), (h.0.named, rest.1))
 
 pub clauses-formula : (inputs : List Bool) (ops : List Op) (conditions : List ℕ) → FitFrom (length inputs) 0 ops → variables_of (length inputs) ops ≤ most → length (clauses_of (length inputs) ops conditions) ≤ most
-      → IsFormula (variables_of (length inputs) ops) (clauses_of (length inputs) ops conditions)
+    → IsFormula (variables_of (length inputs) ops) (clauses_of (length inputs) ops conditions)
 unfolding clauses_of variables_of
 clauses-formula inputs ops conditions over few few_clauses =
     let all = terms_wired (length inputs) ops in
@@ -155,9 +155,9 @@ clauses-formula inputs ops conditions over few few_clauses =
     let size : past (first_of (length inputs)) all.gates ≡ suc n = past-length (first_of (length inputs)) all.gates ∙ omega arith in
     let first_clause : IsClauseUpTo n (once (truth ∷ [])) = once-clause n (truth ∷ []) few (record { some = omega arith; below = omega arith }, tt) refl in
     let rest : AllByRecursion (IsClauseUpTo n) (gates_clauses (first_of (length inputs)) all.gates ++ tidied (map (bits_at all.out) conditions)) =
-        append-clauses n (gates_clauses (first_of (length inputs)) all.gates) (tidied (map (bits_at all.out) conditions))
-          (gates-clauses (first_of (length inputs)) n all.gates few (omega arith) (omega (arith, size)) (gates-scoped inputs ops conditions over))
-          (tidied-clauses n (map (bits_at all.out) conditions) few (subst (λ k. BelowAll k (map (bits_at all.out) conditions)) size (conditions-scoped inputs ops conditions over))) in
+    append-clauses n (gates_clauses (first_of (length inputs)) all.gates) (tidied (map (bits_at all.out) conditions))
+    (gates-clauses (first_of (length inputs)) n all.gates few (omega arith) (omega (arith, size)) (gates-scoped inputs ops conditions over))
+    (tidied-clauses n (map (bits_at all.out) conditions) few (subst (λ k. BelowAll k (map (bits_at all.out) conditions)) size (conditions-scoped inputs ops conditions over))) in
     let parts = both n (once (truth ∷ []) ∷ (gates_clauses (first_of (length inputs)) all.gates ++ tidied (map (bits_at all.out) conditions))) (first_clause, rest) in
     record {
       few_variables = few;

@@ -101,9 +101,9 @@ bits-read before (suc k) x after =
     let first : literal_true (before ++ (b ∷ rest)) (pos (suc (length before))) ≡ b = get_or-append_seam before b rest false in
     let moved : (before ++ (b ∷ [])) ++ rest ≡ before ++ (b ∷ rest) = append_assoc before (b ∷ []) rest in
     let later : word_value (literal_true (before ++ (b ∷ rest))) (variables_from k (suc (suc (length before)))) ≡ (x / 2) % 2 ^ k =
-        ap (λ vs. word_value (literal_true vs) (variables_from k (suc (suc (length before))))) (sym moved)
-        ∙ ap (λ j. word_value (literal_true ((before ++ (b ∷ [])) ++ rest)) (variables_from k (suc j))) (sym (length-one_more before b))
-        ∙ bits-read (before ++ (b ∷ [])) k (x / 2) after in
+    ap (λ vs. word_value (literal_true vs) (variables_from k (suc (suc (length before))))) (sym moved)
+    ∙ ap (λ j. word_value (literal_true ((before ++ (b ∷ [])) ++ rest)) (variables_from k (suc j))) (sym (length-one_more before b))
+    ∙ bits-read (before ++ (b ∷ [])) k (x / 2) after in
     ap (λ z. flag z + 2 * word_value (literal_true (before ++ (b ∷ rest))) (variables_from k (suc (suc (length before))))) first
     ∙ ap (λ z. flag b + 2 * z) later
     ∙ take_step (flag b) (x / 2) (2 ^ k) (2 ^ suc k) (pow_pos k) (twice k) (flag-lt b)
@@ -117,12 +117,12 @@ decoded-given before n (s ∷ inputs) [] e fits = absurd fits
 decoded-given before n (s ∷ inputs) (z ∷ zs) e fits =
     let bits = bits_of_number 32 (cast_unsigned w32 z) in
     let word : word_value (literal_true (before ++ (bits ++ bits_of_inputs zs))) (input_bits n) ≡ cast_unsigned w32 z =
-        ap (λ j. word_value (literal_true (before ++ (bits ++ bits_of_inputs zs))) (variables_from 32 j)) (sym e)
-        ∙ bits-read before 32 (cast_unsigned w32 z) (bits_of_inputs zs) ∙ mod-eq_of_lt (word_fits s z fits.0) in
+    ap (λ j. word_value (literal_true (before ++ (bits ++ bits_of_inputs zs))) (variables_from 32 j)) (sym e)
+    ∙ bits-read before 32 (cast_unsigned w32 z) (bits_of_inputs zs) ∙ mod-eq_of_lt (word_fits s z fits.0) in
     let moved : (before ++ bits) ++ bits_of_inputs zs ≡ before ++ (bits ++ bits_of_inputs zs) = append_assoc before bits (bits_of_inputs zs) in
     let size : suc (length (before ++ bits)) ≡ first_of (suc n) = omega (arith, length-append before bits, length-bits 32 (cast_unsigned w32 z)) in
     let rest : decoded_from (before ++ (bits ++ bits_of_inputs zs)) (suc n) inputs ≡ zs =
-        ap (λ vs. decoded_from vs (suc n) inputs) (sym moved) ∙ decoded-given (before ++ bits) (suc n) inputs zs size fits.1 in
+    ap (λ vs. decoded_from vs (suc n) inputs) (sym moved) ∙ decoded-given (before ++ bits) (suc n) inputs zs size fits.1 in
     ap (λ x. number_read s x ∷ decoded_from (before ++ (bits ++ bits_of_inputs zs)) (suc n) inputs) word
     ∙ ap (λ y. y ∷ decoded_from (before ++ (bits ++ bits_of_inputs zs)) (suc n) inputs) (read_back s z fits.0)
     ∙ ap (λ ys. z ∷ ys) rest
@@ -132,7 +132,7 @@ pub decoded-same : (values others : List Bool) (m n : ℕ) (inputs : List Bool) 
 decoded-same values others m n [] le same = refl
 decoded-same values others m n (s ∷ inputs) le same =
     ap (λ x. number_read s x ∷ decoded_from values (suc n) inputs)
-      (word_value-same (literal_true values) (literal_true others) m (input_bits n) (Below-variables m 32 (first_of n) (omega arith) (omega arith)) same)
+    (word_value-same (literal_true values) (literal_true others) m (input_bits n) (Below-variables m 32 (first_of n) (omega arith) (omega arith)) same)
     ∙ ap (λ ys. number_read s (word_value (literal_true others) (input_bits n)) ∷ ys) (decoded-same values others m (suc n) inputs (omega arith) same)
 
 pub length-fits : (inputs : List Bool) (zs : List ℤ) → FitsInputs inputs zs → length zs ≡ length inputs

@@ -56,7 +56,7 @@ extended-holds values n (g ∷ gs) e s =
     let here : IsBelow (suc (length next)) (pos n) = record { some = omega arith; below = omega arith } in
     let own : literal_true (extended next gs) (pos n) ≡ v = extended-same next gs (pos n) here ∙ ap (λ k. literal_true next (pos k)) e ∙ literal_true-last values v in
     let same : gate_value (literal_true (extended next gs)) g ≡ v =
-        gate_value-same (literal_true (extended next gs)) (literal_true values) n g s.0 (λ l b. extended-same next gs l (IsBelow-later (omega arith) b) ∙ literal_true-push values (v ∷ []) l (IsBelow-later (omega arith) b)) in
+    gate_value-same (literal_true (extended next gs)) (literal_true values) n g s.0 (λ l b. extended-same next gs l (IsBelow-later (omega arith) b) ∙ literal_true-push values (v ∷ []) l (IsBelow-later (omega arith) b)) in
     (own ∙ sym same, extended-holds next (suc n) gs (sym size) s.1)
 
 pub length-extended : (values : List Bool) (gs : List Gate) → length (extended values gs) ≡ length values + length gs

@@ -50,7 +50,7 @@ both_signs-true : (v : ℤ → Bool) (G : Type 0) (n : ℕ) (ls : List ℤ) → 
 both_signs-true v G n [] t b h = h
 both_signs-true v G n (l ∷ ls) t b h =
     both_step (v l) (has (neg_ℤ l) ls) (has_both_signs ls) (list_any v ls)
-      (λ is has. has-true v (neg_ℤ l) ls (t.opposite l b.0.some ∙ ap not is) has) (both_signs-true v G n ls t b.1) h
+    (λ is has. has-true v (neg_ℤ l) ls (t.opposite l b.0.some ∙ ap not is) has) (both_signs-true v G n ls t b.1) h
 
 filter_step : (v : ℤ → Bool) (l m : ℤ) (b : Bool) (ms rest : List ℤ) → int_eq l m ≡ b → (v l || list_any v rest) ≡ (v l || list_any v ms) → (v l || list_any v (cond (not b) (m ∷ rest) rest)) ≡ (v l || (v m || list_any v ms))
 filter_step v l m true ms rest is ih = ih ∙ repeated (v l) (v m) (list_any v ms) (ap v ((Decides-int_eq l m).0 is))
@@ -81,7 +81,7 @@ BelowAll n [] = Unit {0}
 BelowAll n (c ∷ cs) = Below n c × BelowAll n cs
 
 tidied_step : (v : ℤ → Bool) (b : Bool) (c once_c : List ℤ) (rest cs : List (List ℤ)) → (b ≡ true → list_any v c ≡ true) → list_any v once_c ≡ list_any v c → formula_true v rest ≡ formula_true v cs
-      → formula_true v (cond b rest (once_c ∷ rest)) ≡ (list_any v c && formula_true v cs)
+    → formula_true v (cond b rest (once_c ∷ rest)) ≡ (list_any v c && formula_true v cs)
 tidied_step v true c once_c rest cs both same ih = ih ∙ ap (λ z. z && formula_true v cs) (sym (both refl))
 tidied_step v false c once_c rest cs both same ih = ap (λ z. z && formula_true v rest) same ∙ ap (λ z. list_any v c && z) ih
 
@@ -211,10 +211,11 @@ gates-true v G n [] some t s = (λ h. tt, λ h. refl)
 gates-true v G n (g ∷ gs) some t s =
     let below : BelowAll (suc n) (equality (pos n) g) = equality-below (suc n) (pos n) g (variable-below n some) (Below-later n (suc n) (operands g) (omega arith) s.0) in
     let first : formula_true v (tidied (equality (pos n) g)) ≡ agree (v (pos n)) (gate_value v g) =
-        tidied-true v G (suc n) (equality (pos n) g) t below ∙ equality-true v G (suc n) n (pos n) g t (variable-below n some) s.0 in
+    tidied-true v G (suc n) (equality (pos n) g) t below ∙ equality-true v G (suc n) n (pos n) g t (variable-below n some) s.0 in
     let all : formula_true v (gates_clauses n (g ∷ gs)) ≡ (agree (v (pos n)) (gate_value v g) && formula_true v (gates_clauses (suc n) gs)) =
-        list_all-append (list_any v) (tidied (equality (pos n) g)) (gates_clauses (suc n) gs) ∙ ap (λ z. z && formula_true v (gates_clauses (suc n) gs)) first in
+    list_all-append (list_any v) (tidied (equality (pos n) g)) (gates_clauses (suc n) gs) ∙ ap (λ z. z && formula_true v (gates_clauses (suc n) gs)) first in
     let rest = gates-true v G (suc n) gs (omega arith) t s.1 in
-    let same = agree-true (v (pos n)) (gate_value v g) in
-    (λ h. let parts = and_parts (agree (v (pos n)) (gate_value v g)) (formula_true v (gates_clauses (suc n) gs)) (sym all ∙ h) in (same.0 parts.0, rest.0 parts.1),
-     λ h. all ∙ and_from (agree (v (pos n)) (gate_value v g)) (formula_true v (gates_clauses (suc n) gs)) (same.1 h.0) (rest.1 h.1))
+    let same = agree-true (v (pos n)) (gate_value v g) in (
+      λ h. let parts = and_parts (agree (v (pos n)) (gate_value v g)) (formula_true v (gates_clauses (suc n) gs)) (sym all ∙ h) in (same.0 parts.0, rest.0 parts.1),
+      λ h. all ∙ and_from (agree (v (pos n)) (gate_value v g)) (formula_true v (gates_clauses (suc n) gs)) (same.1 h.0) (rest.1 h.1),
+    )

@@ -21,11 +21,11 @@ next-adds c s t x a =
 
 -- the word of an operator, behind those so far
 pub words-more : (inputs : ℕ) (words : List (List ℤ)) (o : Op) (w : List ℤ) (s t : Netlist) → first_of inputs ≤ next_of s → IsOver inputs o → Words (next_of s) words → Adds (op_bits (bits_at words) o) s t w
-      → Words (next_of t) (words ++ w ∷ []) × (first_of inputs ≤ next_of t)
+    → Words (next_of t) (words ++ w ∷ []) × (first_of inputs ≤ next_of t)
 words-more inputs words o w s t le over h a =
     let n = next_of s in
     let b = (op_bits-builds (literal_true []) ⊥ inputs (λ k. 0) n (bits_at words) o (truth-of [] ⊥ (λ given. absurd given)) over
-        (record { past = le; scope = λ t. Below-bits_at n words t (omega arith) h; wide = λ t. length-bits_at n words t h; reads = λ given. absurd given })).built (λ given. absurd given) in
+    (record { past = le; scope = λ t. Below-bits_at n words t (omega arith) h; wide = λ t. length-bits_at n words t h; reads = λ given. absurd given })).built (λ given. absurd given) in
     let next : next_of t ≡ past n (op_bits (bits_at words) o n).gates = next-adds (op_bits (bits_at words) o) s t w a in
     let below : Below (next_of t) w = subst (λ k. Below k w) (sym next) (subst (λ l. Below (past n (op_bits (bits_at words) o n).gates) l) (sym a.out) b.1.scope) in
     let wide : length w ≡ 32 = ap length a.out ∙ b.1.wide in
@@ -40,11 +40,11 @@ op-taken : (ops : List Op) (i : ℕ) (o d : Op) → i < length ops → o ≡ get
 op-taken ops i o d h is = let e : suc i ≡ i + 1 = omega arith in drop-cons ops i d h ∙ ap (λ y. y ∷ drop (suc i) ops) (sym is) ∙ ap (λ k. o ∷ drop k ops) e
 
 pub terms-more : (Q : Netlist → List (List ℤ) → Type 0) (ops : List Op) (words next : List (List ℤ)) (i : ℕ) (o d : Op) (w : List ℤ) (s s1 : Netlist) → i < length ops → o ≡ get_or ops i d → Adds (op_bits (bits_at words) o) s s1 w → next ≡ words ++ w ∷ []
-      → ((t : Netlist) (out : List (List ℤ)) → Adds (terms_bits words (drop i ops)) s t out → Q t out)
-      → (t : Netlist) (out : List (List ℤ)) → Adds (terms_bits next (drop (i + 1) ops)) s1 t out → Q t out
+    → ((t : Netlist) (out : List (List ℤ)) → Adds (terms_bits words (drop i ops)) s t out → Q t out)
+    → (t : Netlist) (out : List (List ℤ)) → Adds (terms_bits next (drop (i + 1) ops)) s1 t out → Q t out
 terms-more Q ops words next i o d w s s1 h is a e whole t out rest =
     whole t out (subst (λ l. Adds (terms_bits words l) s t out) (sym (op-taken ops i o d h is))
-      (terms-adds words o (drop (i + 1) ops) w out s s1 t a (subst (λ l. Adds (terms_bits l (drop (i + 1) ops)) s1 t out) e rest)))
+    (terms-adds words o (drop (i + 1) ops) w out s s1 t a (subst (λ l. Adds (terms_bits l (drop (i + 1) ops)) s1 t out) e rest)))
 
 pub terms-end : (Q : Netlist → List (List ℤ) → Type 0) (ops : List Op) (words : List (List ℤ)) (i : ℕ) (s : Netlist) → length ops ≤ i → ((t : Netlist) (out : List (List ℤ)) → Adds (terms_bits words (drop i ops)) s t out → Q t out) → Q s words
 unfolding terms_bits

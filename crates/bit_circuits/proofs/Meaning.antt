@@ -63,7 +63,7 @@ module _ (inputs : List Bool) (ops : List Op) (conditions : List ℕ) (over : Fi
   terms_are values one holds =
       let zs = decoded inputs values in
       let reads : (k : ℕ) → k < length inputs → word_value (literal_true values) (input_bits k) ≡ input_word zs k =
-          λ k h. ap (λ j. word_value (literal_true values) (input_bits j)) (omega arith) ∙ decoded-read values 0 inputs k h in
+      λ k h. ap (λ j. word_value (literal_true values) (input_bits j)) (omega arith) ∙ decoded-read values 0 inputs k h in
       let b = (terms_bits-builds (literal_true values) (Unit {0}) (length inputs) (input_word zs) (first_of (length inputs)) [] ops (truth-of values (Unit {0}) (λ given. one)) (are-over (length inputs) 0 ops over) (omega arith) (λ given. reads) tt).built (λ given. holds) in
       b.1.value tt
 
@@ -89,11 +89,11 @@ module _ (inputs : List Bool) (ops : List Op) (conditions : List ℕ) (over : Fi
       let zs = decoded inputs values in
       let truths : IsTruth v (Unit {0}) = truth-of values (Unit {0}) (λ given. one) in
       let value : (t : ℕ) → word_value v (bits_at bits_of_terms t) ≡ term_word ops t zs =
-          λ t. word_value-bits_at v bits_of_terms t (falsity_is truths tt) ∙ ap (λ ws. slice_index ws t) (terms_are values one holds) in
+      λ t. word_value-bits_at v bits_of_terms t (falsity_is truths tt) ∙ ap (λ ws. slice_index ws t) (terms_are values one holds) in
       let each : (t : ℕ) → Decides (list_any v (bits_at bits_of_terms t)) (term_word ops t zs ≢ 0) =
-          λ t. Decides-at (list_any v (bits_at bits_of_terms t)) (not (term_word ops t zs == 0)) (list_any-word v (bits_at bits_of_terms t) ∙ ap (λ x. not (x == 0)) (value t)) (Decides-not (term_word ops t zs == 0) (Decides-eqb (term_word ops t zs) 0)) in
+      λ t. Decides-at (list_any v (bits_at bits_of_terms t)) (not (term_word ops t zs == 0)) (list_any-word v (bits_at bits_of_terms t) ∙ ap (λ x. not (x == 0)) (value t)) (Decides-not (term_word ops t zs == 0) (Decides-eqb (term_word ops t zs) 0)) in
       Decides-at (formula_true v (tidied (map (bits_at bits_of_terms) conditions))) (formula_true v (map (bits_at bits_of_terms) conditions)) (tidied-true v (Unit {0}) (past first gates_of) (map (bits_at bits_of_terms) conditions) truths (conditions-below conditions))
-        (Decides-by_and (λ t. list_any v (bits_at bits_of_terms t)) (λ t. term_word ops t zs ≢ 0) (λ ts. formula_true v (map (bits_at bits_of_terms) ts)) each refl (λ _ _. refl) conditions)
+      (Decides-by_and (λ t. list_any v (bits_at bits_of_terms t)) (λ t. term_word ops t zs ≢ 0) (λ ts. formula_true v (map (bits_at bits_of_terms) ts)) each refl (λ _ _. refl) conditions)
 
   -- the whole formula
   parts : (values : List Bool) → formula_true (literal_true values) (clauses_of (length inputs) ops conditions) ≡ ((literal_true values (pos 1) || false) && (formula_true (literal_true values) (gates_clauses first gates_of) && formula_true (literal_true values) (tidied (map (bits_at bits_of_terms) conditions))))
@@ -156,8 +156,8 @@ module _ (inputs : List Bool) (ops : List Op) (conditions : List ℕ) (over : Fi
       let gates = (gates-true v (Unit {0}) first gates_of first-some (truth-of values (Unit {0}) (λ given. one)) scope.0).1 holds in
       let last = (nonzero values one holds).1 here in
       (satisfies values (clauses_of (length inputs) ops conditions)).0
-        (parts values ∙ and_from (v (pos 1) || false) (formula_true v (gates_clauses first gates_of) && formula_true v (tidied (map (bits_at bits_of_terms) conditions))) (or_false (v (pos 1)) ∙ one)
-          (and_from (formula_true v (gates_clauses first gates_of)) (formula_true v (tidied (map (bits_at bits_of_terms) conditions))) gates last))
+      (parts values ∙ and_from (v (pos 1) || false) (formula_true v (gates_clauses first gates_of) && formula_true v (tidied (map (bits_at bits_of_terms) conditions))) (or_false (v (pos 1)) ∙ one)
+      (and_from (formula_true v (gates_clauses first gates_of)) (formula_true v (tidied (map (bits_at bits_of_terms) conditions))) gates last))
 
   pub clauses-fit : (values : List Bool) → FitsInputs inputs (decoded inputs values)
   clauses-fit values = decoded-fits values 0 inputs
@@ -165,8 +165,9 @@ module _ (inputs : List Bool) (ops : List Op) (conditions : List ℕ) (over : Fi
   pub clauses-solved : (zs : List ℤ) → FitsInputs inputs zs
       → All (λ t. term_word ops t zs ≢ 0) conditions ↔ ((values : List Bool) × (length values ≡ variables_of (length inputs) ops) × Satisfies values (clauses_of (length inputs) ops conditions) × (decoded inputs values ≡ zs))
   clauses-solved zs fits = (
-      λ all. (at_input zs, at_input-size zs fits, complete zs fits all, at_input-decoded zs fits),
-      λ found. subst (λ ys. All (λ t. term_word ops t ys ≢ 0) conditions) found.3 (sound found.0 found.2))
+    λ all. (at_input zs, at_input-size zs fits, complete zs fits all, at_input-decoded zs fits),
+    λ found. subst (λ ys. All (λ t. term_word ops t ys ≢ 0) conditions) found.3 (sound found.0 found.2),
+  )
 
 input_with : List ℤ → Input
 input_with zs = record { values = zs }
@@ -179,7 +180,8 @@ unfolding tv term_word input_with values_of
 clauses-are terms conditions fit = record {
   fits = λ values s. fit-inputs terms.inputs (decoded terms.inputs values) (clauses-fit terms.inputs terms.ops conditions fit values);
   solved = λ i fits.
-    let both = clauses-solved terms.inputs terms.ops conditions fit i.values (inputs-fit terms.inputs i.values fits) in (
-      λ all. let found = both.0 all in (found.0, found.1, found.2, ap input_with found.3),
-      λ found. both.1 (found.0, found.1, found.2, ap values_of found.3));
+      let both = clauses-solved terms.inputs terms.ops conditions fit i.values (inputs-fit terms.inputs i.values fits) in (
+        λ all. let found = both.0 all in (found.0, found.1, found.2, ap input_with found.3),
+        λ found. both.1 (found.0, found.1, found.2, ap values_of found.3),
+      );
 }

@@ -25,7 +25,7 @@ pub record IsDivided (v : ℤ → Bool) (G : Type 0) (j k x d : ℕ) (n : ℕ) (
 
 -- t says whether d fits into the rest x + 2 r
 division_step : (t : Bool) (ll p d x r q xs n : ℕ) → x < 2 → ll < p → ll + p * flag t ≡ (x + 2 * r) + n + 1 → n + d + 1 ≡ p → x + 2 * xs < p → IsDivision xs d q r
-      → IsDivision (x + 2 * xs) d (flag t + 2 * q) (cond t ll (x + 2 * r))
+    → IsDivision (x + 2 * xs) d (flag t + 2 * q) (cond t ll (x + 2 * r))
 division_step true ll p d x r q xs n bit h e f g is =
     let a : ll + d ≡ x + 2 * r = omega arith in
     let b : q * d + r ≡ xs = is.whole in
@@ -43,7 +43,7 @@ below_power : (a j k : ℕ) → a < 2 ^ j → j ≤ k → a < 2 ^ k
 below_power a j k h le = let p : 2 ^ j ≤ 2 ^ k = pow-le-pow_right (omega arith) le in omega arith
 
 pub divide-builds : (v : ℤ → Bool) (G : Type 0) (n : ℕ) (xs ds : List ℤ) → 1 < n → IsTruth v G → Below n xs → Below n ds → length xs ≤ length ds
-      → Builds v G n (divide xs ds) (IsDivided v G (length xs) (length ds) (word_value v xs) (word_value v ds))
+    → Builds v G n (divide xs ds) (IsDivided v G (length xs) (length ds) (word_value v xs) (word_value v ds))
 unfolding divide
 divide-builds v G n [] ds some t bx bd le = done-builds _ (record {
   scope_quotient = tt;
@@ -68,16 +68,16 @@ divide-builds v G n (x ∷ xs) ds some t bx bd le =
       wide_quotient = ap suc ph.wide_quotient;
       wide_remainder = pr.wide ∙ length-lower k s wides;
       value = λ given.
-        let below : word_value v (x ∷ xs) < 2 ^ k = below_power (word_value v (x ∷ xs)) (length (x ∷ xs)) k (word_value-lt v (x ∷ xs)) le in
-        let small : word_value v (lower s) < 2 ^ k = subst (λ j. word_value v (lower s) < 2 ^ j) (length-lower k s wides) (word_value-lt v (lower s)) in
-        let eq : word_value v rest ≡ flag (v x) + 2 * word_value v higher.remainder =
-            rest_step (v (top (x ∷ higher.remainder))) (word_value v higher.remainder) (2 ^ k) (flag (v x)) (word_value v higher.quotient) (word_value v ds) (word_value v xs) (word_value v rest)
-              (word_value-lower v k (x ∷ higher.remainder) grown) below (ph.value given) in
-        let total : word_value v (lower s) + 2 ^ k * flag (v (top s)) ≡ (flag (v x) + 2 * word_value v higher.remainder) + word_value v (map neg_ℤ ds) + 1 =
-            sym (word_value-lower v k s wides) ∙ ps.value given ∙ ap (λ b. word_value v rest + word_value v (map neg_ℤ ds) + flag b) (t.one given) ∙ ap (λ z. z + word_value v (map neg_ℤ ds) + 1) eq in
-        let is = division_step (v (top s)) (word_value v (lower s)) (2 ^ k) (word_value v ds) (flag (v x)) (word_value v higher.remainder) (word_value v higher.quotient) (word_value v xs) (word_value v (map neg_ℤ ds))
-              (flag-lt (v x)) small total (word_value-neg v G n ds t bd) below (ph.value given) in
-        subst (λ z. IsDivision (word_value v (x ∷ xs)) (word_value v ds) (flag (v (top s)) + 2 * word_value v higher.quotient) z)
+          let below : word_value v (x ∷ xs) < 2 ^ k = below_power (word_value v (x ∷ xs)) (length (x ∷ xs)) k (word_value-lt v (x ∷ xs)) le in
+          let small : word_value v (lower s) < 2 ^ k = subst (λ j. word_value v (lower s) < 2 ^ j) (length-lower k s wides) (word_value-lt v (lower s)) in
+          let eq : word_value v rest ≡ flag (v x) + 2 * word_value v higher.remainder =
+          rest_step (v (top (x ∷ higher.remainder))) (word_value v higher.remainder) (2 ^ k) (flag (v x)) (word_value v higher.quotient) (word_value v ds) (word_value v xs) (word_value v rest)
+          (word_value-lower v k (x ∷ higher.remainder) grown) below (ph.value given) in
+          let total : word_value v (lower s) + 2 ^ k * flag (v (top s)) ≡ (flag (v x) + 2 * word_value v higher.remainder) + word_value v (map neg_ℤ ds) + 1 =
+          sym (word_value-lower v k s wides) ∙ ps.value given ∙ ap (λ b. word_value v rest + word_value v (map neg_ℤ ds) + flag b) (t.one given) ∙ ap (λ z. z + word_value v (map neg_ℤ ds) + 1) eq in
+          let is = division_step (v (top s)) (word_value v (lower s)) (2 ^ k) (word_value v ds) (flag (v x)) (word_value v higher.remainder) (word_value v higher.quotient) (word_value v xs) (word_value v (map neg_ℤ ds))
+          (flag-lt (v x)) small total (word_value-neg v G n ds t bd) below (ph.value given) in
+          subst (λ z. IsDivision (word_value v (x ∷ xs)) (word_value v ds) (flag (v (top s)) + 2 * word_value v higher.quotient) z)
           (sym (pr.value given ∙ ap (λ z. cond (v (top s)) (word_value v (lower s)) z) eq)) is;
     }))))
 
@@ -100,7 +100,7 @@ remainder_of x (suc d) q r is =
     sym (mod-mul-add q (suc d) r b) ∙ ap (λ z. z % suc d) a
 
 pub quotient-builds : (v : ℤ → Bool) (G : Type 0) (n : ℕ) (xs ds : List ℤ) → 1 < n → IsTruth v G → Below n xs → Below n ds → length xs ≤ length ds
-      → Builds v G n (quotient xs ds) (IsWord v G (length xs) (divided (word_value v xs) (word_value v ds)))
+    → Builds v G n (quotient xs ds) (IsWord v G (length xs) (divided (word_value v xs) (word_value v ds)))
 unfolding quotient
 quotient-builds v G n xs ds some t bx bd le =
     then-builds _ (divide-builds v G n xs ds some t bx bd le) (λ n1 le1 both pb.
@@ -109,12 +109,12 @@ quotient-builds v G n xs ds some t bx bd le =
       scope = w.scope;
       wide = w.wide ∙ pb.wide_quotient;
       value = λ given.
-        w.value given ∙ ap (λ b. flag b * word_value v both.quotient) (pc.value given)
-        ∙ quotient_is (word_value v xs) (word_value v ds) (word_value v both.quotient) (word_value v both.remainder) (pb.value given);
+          w.value given ∙ ap (λ b. flag b * word_value v both.quotient) (pc.value given)
+          ∙ quotient_is (word_value v xs) (word_value v ds) (word_value v both.quotient) (word_value v both.remainder) (pb.value given);
     })))
 
 pub remainder-builds : (v : ℤ → Bool) (G : Type 0) (n : ℕ) (xs ds : List ℤ) → 1 < n → IsTruth v G → Below n xs → Below n ds → length xs ≤ length ds
-      → Builds v G n (remainder xs ds) (IsWord v G (length ds) (left_over (word_value v xs) (word_value v ds)))
+    → Builds v G n (remainder xs ds) (IsWord v G (length ds) (left_over (word_value v xs) (word_value v ds)))
 unfolding remainder
 remainder-builds v G n xs ds some t bx bd le =
     then-builds _ (divide-builds v G n xs ds some t bx bd le) (λ n1 le1 both pb.

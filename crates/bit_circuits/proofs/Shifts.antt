@@ -91,8 +91,8 @@ stages_fit k c w p q e some h =
     (grind arith, omega arith)
 
 pub stages-builds : (v : ℤ → Bool) (G : Type 0) (first n w : ℕ) (move : ℕ → List ℤ → List ℤ) (f : ℕ → ℕ → ℕ) (k : ℕ) (cs xs : List ℤ)
-      → IsMove v G first w move f → first ≤ n → 0 < n → Below n cs → Below n xs → length xs ≡ w → k * 2 ^ length cs ≤ w
-      → Builds v G n (stages move k cs xs) (IsWord v G w (f (k * word_value v cs) (word_value v xs)))
+    → IsMove v G first w move f → first ≤ n → 0 < n → Below n cs → Below n xs → length xs ≡ w → k * 2 ^ length cs ≤ w
+    → Builds v G n (stages move k cs xs) (IsWord v G w (f (k * word_value v cs) (word_value v xs)))
 unfolding stages
 stages-builds v G first n w move f k [] xs is le some bc bx wide fit =
     done-builds xs (record {
@@ -105,11 +105,11 @@ stages-builds v G first n w move f k (c ∷ cs) xs is le some bc bx wide fit =
     let moved : length (move k xs) ≡ w = is.wide k xs fits.0 wide in
     then-builds _ (choose-builds v G n c (move k xs) xs some bc.0 (is.scope n k xs le bx) bx (moved ∙ sym wide)) (λ n1 le1 ys py.
     weaker-builds (stages-builds v G first n1 w move f (2 * k) cs ys is (omega arith) (omega arith) (Below-later n n1 cs le1 bc.1) py.scope (py.wide ∙ moved) fits.1) (λ n2 le2 ls w'.
-      word-same (λ given.
-        let small : word_value v xs < 2 ^ w = subst (λ j. word_value v xs < 2 ^ j) wide (word_value-lt v xs) in
-        let eq : word_value v ys ≡ f (k * flag (v c)) (word_value v xs) =
-            py.value given ∙ ap (λ z. cond (v c) z (word_value v xs)) (is.value given k xs fits.0 wide) ∙ moved_or_not f (v c) k (word_value v xs) (is.none (word_value v xs) small) in
-        ap (λ z. f (2 * k * word_value v cs) z) eq ∙ is.more (k * flag (v c)) (2 * k * word_value v cs) (word_value v xs) small ∙ ap (λ j. f j (word_value v xs)) (omega arith)) w'))
+    word-same (λ given.
+    let small : word_value v xs < 2 ^ w = subst (λ j. word_value v xs < 2 ^ j) wide (word_value-lt v xs) in
+    let eq : word_value v ys ≡ f (k * flag (v c)) (word_value v xs) =
+    py.value given ∙ ap (λ z. cond (v c) z (word_value v xs)) (is.value given k xs fits.0 wide) ∙ moved_or_not f (v c) k (word_value v xs) (is.none (word_value v xs) small) in
+    ap (λ z. f (2 * k * word_value v cs) z) eq ∙ is.more (k * flag (v c)) (2 * k * word_value v cs) (word_value v xs) small ∙ ap (λ j. f j (word_value v xs)) (omega arith)) w'))
 
 -- ---- up
 
@@ -128,25 +128,26 @@ up_move v G n w some t = record {
   scope = λ m k xs le bx. Below-take m (length xs) (falses k ++ xs) (Below-append m (falses k) xs (Below-falses m k (omega arith)) bx);
   wide = λ k xs le wide. length-take (length xs) (falses k ++ xs) ∙ omega (arith, length-append (falses k) xs, length-falses k);
   value = λ given k xs le wide.
-    word_value-take v (length xs) (falses k ++ xs)
-    ∙ ap (λ z. z % 2 ^ length xs) (word_value-append v (falses k) xs ∙ ap (λ z. z + 2 ^ length (falses k) * word_value v xs) (word_value-falses v k (falsity_is t given)) ∙ ap (λ j. 0 + 2 ^ j * word_value v xs) (length-falses k) ∙ turn (2 ^ k) (word_value v xs))
-    ∙ ap (λ j. word_value v xs * 2 ^ k % 2 ^ j) wide;
+      word_value-take v (length xs) (falses k ++ xs)
+      ∙ ap (λ z. z % 2 ^ length xs) (word_value-append v (falses k) xs ∙ ap (λ z. z + 2 ^ length (falses k) * word_value v xs) (word_value-falses v k (falsity_is t given)) ∙ ap (λ j. 0 + 2 ^ j * word_value v xs) (length-falses k) ∙ turn (2 ^ k) (word_value v xs))
+      ∙ ap (λ j. word_value v xs * 2 ^ k % 2 ^ j) wide;
   none = λ x h. ap (λ z. z % 2 ^ w) (omega arith) ∙ mod-eq_of_lt h;
   more = λ a b x h. times_mod (x * 2 ^ a) (2 ^ b) (2 ^ w) ∙ ap (λ z. z % 2 ^ w) (assoc x (2 ^ a) (2 ^ b) ∙ ap (λ z. x * z) (sym (pow-add 2 a b)));
 }
   where
     turn : (p x : ℕ) → 0 + p * x ≡ x * p
     turn p x = omega arith
+
     assoc : (x y z : ℕ) → x * y * z ≡ x * (y * z)
     assoc x y z = omega arith
 
 pub shift_up-builds : (v : ℤ → Bool) (G : Type 0) (n : ℕ) (xs count : List ℤ) → 1 < n → IsTruth v G → Below n xs → Below n count → length xs ≡ 32 → length count ≡ 32
-      → Builds v G n (shift_up xs count) (IsWord v G 32 (word_value v xs * 2 ^ (word_value v count % 32) % 2 ^ 32))
+    → Builds v G n (shift_up xs count) (IsWord v G 32 (word_value v xs * 2 ^ (word_value v count % 32) % 2 ^ 32))
 unfolding shift_up up
 shift_up-builds v G n xs count some t bx bc wx wc =
     let five : length (take 5 count) ≡ 5 = length-take 5 count ∙ omega arith in
     weaker-builds (stages-builds v G n n 32 moved_up (up 32) 1 (take 5 count) xs (up_move v G n 32 some t) (omega arith) (omega arith) (Below-take n 5 count bc) bx wx (subst (λ j. 1 * 2 ^ j ≤ 32) (sym five) (omega arith))) (λ m le ls w.
-      word-same (λ given. ap (λ j. word_value v xs * 2 ^ j % 2 ^ 32) (omega arith ∙ word_value-take v 5 count)) w)
+    word-same (λ given. ap (λ j. word_value v xs * 2 ^ j % 2 ^ 32) (omega arith ∙ word_value-take v 5 count)) w)
 
 -- ---- down
 
@@ -204,29 +205,29 @@ down_move v G n w fill bf = record {
   scope = λ m k xs le bx. Below-append m (drop k xs) (replicate k fill) (Below-drop m k xs bx) (Below-replicate m k fill (IsBelow-later le bf));
   wide = λ k xs le wide. length-append (drop k xs) (replicate k fill) ∙ omega (arith, length-drop k xs, length-copies k fill);
   value = λ given k xs le wide.
-    let rest : length (drop k xs) ≡ w - k = length-drop k xs ∙ ap (λ z. z - k) wide in
-    word_value-append v (drop k xs) (replicate k fill)
-    ∙ ap (λ z. z + 2 ^ length (drop k xs) * word_value v (replicate k fill)) (word_value-drop v k xs)
-    ∙ ap (λ j. word_value v xs / 2 ^ k + 2 ^ j * word_value v (replicate k fill)) rest
-    ∙ filled_step (v fill) w k (w - k) (word_value v xs) (word_value v (replicate k fill)) (omega arith) (subst (λ j. word_value v xs < 2 ^ j) wide (word_value-lt v xs)) (word_value-copies v k fill);
+      let rest : length (drop k xs) ≡ w - k = length-drop k xs ∙ ap (λ z. z - k) wide in
+      word_value-append v (drop k xs) (replicate k fill)
+      ∙ ap (λ z. z + 2 ^ length (drop k xs) * word_value v (replicate k fill)) (word_value-drop v k xs)
+      ∙ ap (λ j. word_value v xs / 2 ^ k + 2 ^ j * word_value v (replicate k fill)) rest
+      ∙ filled_step (v fill) w k (w - k) (word_value v xs) (word_value v (replicate k fill)) (omega arith) (subst (λ j. word_value v xs < 2 ^ j) wide (word_value-lt v xs)) (word_value-copies v k fill);
   none = down_none w (v fill);
   more = down_more w (v fill);
 }
 
 pub shift_down-builds : (v : ℤ → Bool) (G : Type 0) (n : ℕ) (fill : ℤ) (xs count : List ℤ) → 1 < n → IsBelow n fill → Below n xs → Below n count → length xs ≡ 32 → length count ≡ 32
-      → Builds v G n (shift_down fill xs count) (IsWord v G 32 (down 32 (v fill) (word_value v count % 32) (word_value v xs)))
+    → Builds v G n (shift_down fill xs count) (IsWord v G 32 (down 32 (v fill) (word_value v count % 32) (word_value v xs)))
 unfolding shift_down
 shift_down-builds v G n fill xs count some bf bx bc wx wc =
     let five : length (take 5 count) ≡ 5 = length-take 5 count ∙ omega arith in
     weaker-builds (stages-builds v G n n 32 (moved_down fill) (down 32 (v fill)) 1 (take 5 count) xs (down_move v G n 32 fill bf) (omega arith) (omega arith) (Below-take n 5 count bc) bx wx (subst (λ j. 1 * 2 ^ j ≤ 32) (sym five) (omega arith))) (λ m le ls w.
-      word-same (λ given. ap (λ j. down 32 (v fill) j (word_value v xs)) (omega arith ∙ word_value-take v 5 count)) w)
+    word-same (λ given. ap (λ j. down 32 (v fill) j (word_value v xs)) (omega arith ∙ word_value-take v 5 count)) w)
 
 pub shift_unsigned-builds : (v : ℤ → Bool) (G : Type 0) (n : ℕ) (xs count : List ℤ) → 1 < n → IsTruth v G → Below n xs → Below n count → length xs ≡ 32 → length count ≡ 32
-      → Builds v G n (shift_down falsity xs count) (IsWord v G 32 (word_value v xs / 2 ^ (word_value v count % 32)))
+    → Builds v G n (shift_down falsity xs count) (IsWord v G 32 (word_value v xs / 2 ^ (word_value v count % 32)))
 unfolding down
 shift_unsigned-builds v G n xs count some t bx bc wx wc =
     weaker-builds (shift_down-builds v G n falsity xs count some (record { some = omega arith; below = omega arith }) bx bc wx wc) (λ m le ls w.
-      word-same (λ given. ap (λ b. down 32 b (word_value v count % 32) (word_value v xs)) (falsity_is t given)) w)
+    word-same (λ given. ap (λ b. down 32 b (word_value v count % 32) (word_value v xs)) (falsity_is t given)) w)
 
 signed_shift : (b : Bool) (x m k : ℕ) → SignedAs b x m → down 32 b k x ≡ cast_unsigned w32 (int_shr (cast_signed w32 x) k)
 unfolding down
@@ -236,7 +237,7 @@ signed_shift true x m k is =
     ap (λ z. 2 ^ 32 - 1 - z / 2 ^ k) low ∙ omega arith ∙ sym (ap (λ z. cast_unsigned w32 (int_shr z k)) is.2)
 
 pub shift_signed-builds : (v : ℤ → Bool) (G : Type 0) (n : ℕ) (xs count : List ℤ) → 1 < n → Below n xs → Below n count → length xs ≡ 32 → length count ≡ 32
-      → Builds v G n (shift_down (top xs) xs count) (IsWord v G 32 (cast_unsigned w32 (int_shr (cast_signed w32 (word_value v xs)) (word_value v count % 32))))
+    → Builds v G n (shift_down (top xs) xs count) (IsWord v G 32 (cast_unsigned w32 (int_shr (cast_signed w32 (word_value v xs)) (word_value v count % 32))))
 shift_signed-builds v G n xs count some bx bc wx wc =
     weaker-builds (shift_down-builds v G n (top xs) xs count some (IsBelow-top n xs some bx) bx bc wx wc) (λ m le ls w.
-      word-same (λ given. signed_shift (v (top xs)) (word_value v xs) (mag_of v xs) (word_value v count % 32) (word_signed v xs wx)) w)
+    word-same (λ given. signed_shift (v (top xs)) (word_value v xs) (mag_of v xs) (word_value v count % 32) (word_signed v xs wx)) w)

@@ -82,7 +82,7 @@ remainder_cases true u x (suc y) m n a b =
 -- ---- the circuits
 
 negate_if-builds : (v : ℤ → Bool) (G : Type 0) (n : ℕ) (c : ℤ) (xs : List ℤ) → 1 < n → IsTruth v G → IsBelow n c → Below n xs → length xs ≡ 32
-      → Builds v G n (negate_if c xs) (IsWord v G 32 (cond (v c) (negated (word_value v xs)) (word_value v xs)))
+    → Builds v G n (negate_if c xs) (IsWord v G 32 (cond (v c) (negated (word_value v xs)) (word_value v xs)))
 unfolding negate_if
 negate_if-builds v G n c xs some t bc bx wide =
     then-builds _ (negate-builds v G n xs some t bx) (λ n1 le1 ns w.
@@ -106,7 +106,7 @@ unfolding magnitude
 magnitude-builds v G n xs some t bx wide = negate_if-builds v G n (top xs) xs some t (IsBelow-top n xs some bx) bx wide
 
 pub quotient_signed-builds : (v : ℤ → Bool) (G : Type 0) (n : ℕ) (xs ds : List ℤ) → 1 < n → IsTruth v G → Below n xs → Below n ds → length xs ≡ 32 → length ds ≡ 32
-      → Builds v G n (quotient_signed xs ds) (IsWord v G 32 (divided_signed (word_value v xs) (word_value v ds)))
+    → Builds v G n (quotient_signed xs ds) (IsWord v G 32 (divided_signed (word_value v xs) (word_value v ds)))
 unfolding quotient_signed
 quotient_signed-builds v G n xs ds some t bx bd wx wd =
     then-builds _ (magnitude-builds v G n xs some t bx wx) (λ n1 le1 ms pa.
@@ -114,21 +114,21 @@ quotient_signed-builds v G n xs ds some t bx bd wx wd =
     then-builds _ (quotient-builds v G n2 ms bs (omega arith) t (Below-later n1 n2 ms le2 pa.scope) pb.scope (omega (arith, pa.wide, pb.wide))) (λ n3 le3 q pq.
     then-builds _ (gate-builds (gates.Xor (top xs) (top ds)) (omega arith) (IsBelow-top n3 xs (omega arith) (Below-later n n3 xs (omega arith) bx), (IsBelow-top n3 ds (omega arith) (Below-later n n3 ds (omega arith) bd), tt))) (λ n4 le4 c pc.
     weaker-builds (negate_if-builds v G n4 c q (omega arith) t pc.scope (Below-later n3 n4 q le4 pq.scope) (pq.wide ∙ pa.wide)) (λ n5 le5 ls w.
-      word-same (λ given.
-        let eq : word_value v q ≡ divided (mag_of v xs) (mag_of v ds) = pq.value given ∙ ap (λ k. divided k (word_value v bs)) (pa.value given) ∙ ap (λ k. divided (mag_of v xs) k) (pb.value given) in
-        ap (λ b. cond b (negated (word_value v q)) (word_value v q)) (pc.value given)
-        ∙ ap (λ k. cond (either (v (top xs)) (v (top ds))) (negated k) k) eq
-        ∙ quotient_cases (v (top xs)) (v (top ds)) (word_value v xs) (word_value v ds) (mag_of v xs) (mag_of v ds) (word_signed v xs wx) (word_signed v ds wd)) w)))))
+    word-same (λ given.
+    let eq : word_value v q ≡ divided (mag_of v xs) (mag_of v ds) = pq.value given ∙ ap (λ k. divided k (word_value v bs)) (pa.value given) ∙ ap (λ k. divided (mag_of v xs) k) (pb.value given) in
+    ap (λ b. cond b (negated (word_value v q)) (word_value v q)) (pc.value given)
+    ∙ ap (λ k. cond (either (v (top xs)) (v (top ds))) (negated k) k) eq
+    ∙ quotient_cases (v (top xs)) (v (top ds)) (word_value v xs) (word_value v ds) (mag_of v xs) (mag_of v ds) (word_signed v xs wx) (word_signed v ds wd)) w)))))
 
 pub remainder_signed-builds : (v : ℤ → Bool) (G : Type 0) (n : ℕ) (xs ds : List ℤ) → 1 < n → IsTruth v G → Below n xs → Below n ds → length xs ≡ 32 → length ds ≡ 32
-      → Builds v G n (remainder_signed xs ds) (IsWord v G 32 (left_over_signed (word_value v xs) (word_value v ds)))
+    → Builds v G n (remainder_signed xs ds) (IsWord v G 32 (left_over_signed (word_value v xs) (word_value v ds)))
 unfolding remainder_signed
 remainder_signed-builds v G n xs ds some t bx bd wx wd =
     then-builds _ (magnitude-builds v G n xs some t bx wx) (λ n1 le1 ms pa.
     then-builds _ (magnitude-builds v G n1 ds (omega arith) t (Below-later n n1 ds le1 bd) wd) (λ n2 le2 bs pb.
     then-builds _ (remainder-builds v G n2 ms bs (omega arith) t (Below-later n1 n2 ms le2 pa.scope) pb.scope (omega (arith, pa.wide, pb.wide))) (λ n3 le3 r pr.
     weaker-builds (negate_if-builds v G n3 (top xs) r (omega arith) t (IsBelow-top n3 xs (omega arith) (Below-later n n3 xs (omega arith) bx)) pr.scope (pr.wide ∙ pb.wide)) (λ n4 le4 ls w.
-      word-same (λ given.
-        let eq : word_value v r ≡ left_over (mag_of v xs) (mag_of v ds) = pr.value given ∙ ap (λ k. left_over k (word_value v bs)) (pa.value given) ∙ ap (λ k. left_over (mag_of v xs) k) (pb.value given) in
-        ap (λ k. cond (v (top xs)) (negated k) k) eq
-        ∙ remainder_cases (v (top xs)) (v (top ds)) (word_value v xs) (word_value v ds) (mag_of v xs) (mag_of v ds) (word_signed v xs wx) (word_signed v ds wd)) w))))
+    word-same (λ given.
+    let eq : word_value v r ≡ left_over (mag_of v xs) (mag_of v ds) = pr.value given ∙ ap (λ k. left_over k (word_value v bs)) (pa.value given) ∙ ap (λ k. left_over (mag_of v xs) k) (pb.value given) in
+    ap (λ k. cond (v (top xs)) (negated k) k) eq
+    ∙ remainder_cases (v (top xs)) (v (top ds)) (word_value v xs) (word_value v ds) (mag_of v xs) (mag_of v ds) (word_signed v xs wx) (word_signed v ds wd)) w))))

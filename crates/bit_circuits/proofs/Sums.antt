@@ -21,7 +21,7 @@ sum_step : (s l d x y c xs ys : ℕ) → s + 2 * d ≡ x + y + c → l ≡ xs + 
 sum_step s l d x y c xs ys e f = omega arith
 
 pub sum-builds : (v : ℤ → Bool) (G : Type 0) (n : ℕ) (c : ℤ) (xs ys : List ℤ) → 0 < n → IsBelow n c → Below n xs → Below n ys → length xs ≡ length ys
-      → Builds v G n (sum c xs ys) (IsWord v G (suc (length xs)) (word_value v xs + word_value v ys + flag (v c)))
+    → Builds v G n (sum c xs ys) (IsWord v G (suc (length xs)) (word_value v xs + word_value v ys + flag (v c)))
 unfolding sum
 sum-builds v G n c [] [] some bc bx by same = done-builds (c ∷ []) (record { scope = (bc, tt); wide = refl; value = λ given. omega arith })
 sum-builds v G n c [] (y ∷ ys) some bc bx by same = absurd (omega arith)
@@ -35,9 +35,9 @@ sum-builds v G n c (x ∷ xs) (y ∷ ys) some bc bx by same =
       scope = (IsBelow-later (omega arith) ps.scope, pl.scope);
       wide = ap suc pl.wide;
       value = λ given.
-        let es : flag (v s) ≡ flag (either (either (v x) (v y)) (v c)) = ap flag (ps.value given ∙ ap (λ b. either b (v c)) (ph.value given)) in
-        let ed : flag (v d) ≡ flag (majority (v x) (v y) (v c)) = ap flag (pd.value given) in
-        sum_step (flag (v s)) (word_value v ls) (flag (v d)) (flag (v x)) (flag (v y)) (flag (v c)) (word_value v xs) (word_value v ys)
+          let es : flag (v s) ≡ flag (either (either (v x) (v y)) (v c)) = ap flag (ps.value given ∙ ap (λ b. either b (v c)) (ph.value given)) in
+          let ed : flag (v d) ≡ flag (majority (v x) (v y) (v c)) = ap flag (pd.value given) in
+          sum_step (flag (v s)) (word_value v ls) (flag (v d)) (flag (v x)) (flag (v y)) (flag (v c)) (word_value v xs) (word_value v ys)
           (ap (λ k. k + 2 * flag (v d)) es ∙ ap (λ k. flag (either (either (v x) (v y)) (v c)) + 2 * k) ed ∙ adder (v x) (v y) (v c))
           (pl.value given);
     })))))

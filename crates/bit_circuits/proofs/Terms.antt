@@ -78,7 +78,7 @@ pub record AreWords (v : ℤ → Bool) (G : Type 0) (inputs : ℕ) (input : ℕ 
   pub reads : G → (k : ℕ) → k < inputs → word_value v (input_bits k) ≡ input k
 
 pub op_bits-builds : (v : ℤ → Bool) (G : Type 0) (inputs : ℕ) (input : ℕ → ℕ) (n : ℕ) (at : ℕ → List ℤ) (o : Op) → IsTruth v G → IsOver inputs o → AreWords v G inputs input n at
-      → Builds v G n (op_bits at o) (IsWord v G 32 (word_of input (λ t. word_value v (at t)) o))
+    → Builds v G n (op_bits at o) (IsWord v G 32 (word_of input (λ t. word_value v (at t)) o))
 unfolding op_bits
 op_bits-builds v G inputs input n at (op.Input k) t over w =
     let le = w.past in
@@ -119,8 +119,8 @@ op_bits-builds v G inputs input n at (op.LtS a b) t over w =
     then-builds _ (less_signed-builds v G n (at a) (at b) (omega (arith, w.past)) t (w.scope a) (w.scope b) (w.wide a) (w.wide b)) (λ m le l is. done-builds _ (truth_word-is v G _ m l (omega (arith, w.past)) t is))
 op_bits-builds v G inputs input n at (op.Ite c a b) t over w =
     weaker-builds (if_some-builds v G n (at c) (at a) (at b) (omega (arith, w.past)) t (w.scope c) (w.scope a) (w.scope b) (w.wide a ∙ sym (w.wide b))) (λ m le ls r.
-      word-same (λ given. chosen-is (word_value v (at c)) (word_value v (at a)) (word_value v (at b)))
-        (at_width (length (at a)) (λ k. cond (not (word_value v (at c) == 0)) (word_value v (at a)) (word_value v (at b))) (w.wide a) r))
+    word-same (λ given. chosen-is (word_value v (at c)) (word_value v (at a)) (word_value v (at b)))
+    (at_width (length (at a)) (λ k. cond (not (word_value v (at c) == 0)) (word_value v (at a)) (word_value v (at b))) (w.wide a) r))
 
 -- ---- all terms
 
@@ -165,8 +165,8 @@ pub record AreTerms (v : ℤ → Bool) (G : Type 0) (values : List ℕ) (n : ℕ
   pub value : G → map (word_value v) out ≡ values
 
 pub terms_bits-builds : (v : ℤ → Bool) (G : Type 0) (inputs : ℕ) (input : ℕ → ℕ) (n : ℕ) (words : List (List ℤ)) (ops : List Op) → IsTruth v G → AreOver inputs ops → first_of inputs ≤ n
-      → (G → (k : ℕ) → k < inputs → word_value v (input_bits k) ≡ input k) → Words n words
-      → Builds v G n (terms_bits words ops) (AreTerms v G (words_from input (map (word_value v) words) ops))
+    → (G → (k : ℕ) → k < inputs → word_value v (input_bits k) ≡ input k) → Words n words
+    → Builds v G n (terms_bits words ops) (AreTerms v G (words_from input (map (word_value v) words) ops))
 unfolding terms_bits
 terms_bits-builds v G inputs input n words [] t over le reads h = done-builds words (record { words = h; value = λ given. refl })
 terms_bits-builds v G inputs input n words (o ∷ ops) t over le reads h =
@@ -174,7 +174,7 @@ terms_bits-builds v G inputs input n words (o ∷ ops) t over le reads h =
     weaker-builds (terms_bits-builds v G inputs input m (words ++ w ∷ []) ops t over.1 (omega arith) reads (Words-push m words w (Words-later n m words le2 h) pw.scope pw.wide)) (λ k le3 out r. record {
       words = r.words;
       value = λ given.
-        let same : word_value v w ≡ word_of input (slice_index (map (word_value v) words)) o =
-            pw.value given ∙ ap (λ at. word_of input at o) (pointwise_same (λ t. word_value v (bits_at words t)) (slice_index (map (word_value v) words)) (λ j. word_value-bits_at v words j (falsity_is t given))) in
-        r.value given ∙ ap (λ ws. words_from input ws ops) (map-push v words w ∙ ap (λ x. map (word_value v) words ++ x ∷ []) same);
+          let same : word_value v w ≡ word_of input (slice_index (map (word_value v) words)) o =
+          pw.value given ∙ ap (λ at. word_of input at o) (pointwise_same (λ t. word_value v (bits_at words t)) (slice_index (map (word_value v) words)) (λ j. word_value-bits_at v words j (falsity_is t given))) in
+          r.value given ∙ ap (λ ws. words_from input ws ops) (map-push v words w ∙ ap (λ x. map (word_value v) words ++ x ∷ []) same);
     }))

@@ -41,18 +41,18 @@ unfolding magnitude
 magnitude-adds z xs l s t e a = subst (λ k. Adds (negate_if k xs) s t l) e a
 
 pub quotient_signed-adds : (xs ds as' bs as2 bs2 q q2 l : List ℤ) (x d c : ℤ) (s s1 s2 s3 s4 s5 : Netlist) → as2 ≡ as' → bs2 ≡ bs → x ≡ top xs → d ≡ top ds → q2 ≡ q
-      → Adds (magnitude xs) s s1 as' → Adds (magnitude ds) s1 s2 bs → Adds (quotient as2 bs2) s2 s3 q → Adds (gate (gates.Xor x d)) s3 s4 c → Adds (negate_if c q2) s4 s5 l → Adds (quotient_signed xs ds) s s5 l
+    → Adds (magnitude xs) s s1 as' → Adds (magnitude ds) s1 s2 bs → Adds (quotient as2 bs2) s2 s3 q → Adds (gate (gates.Xor x d)) s3 s4 c → Adds (negate_if c q2) s4 s5 l → Adds (quotient_signed xs ds) s s5 l
 unfolding quotient_signed
 quotient_signed-adds xs ds as' bs as2 bs2 q q2 l x d c s s1 s2 s3 s4 s5 ea eb ex ed eq a b m g n =
     then-adds _ _ s s1 s5 as' l a (then-adds _ _ s1 s2 s5 bs l b (then-adds _ _ s2 s3 s5 q l (subst (λ k. Adds (quotient as' k) s2 s3 q) eb (subst (λ k. Adds (quotient k bs2) s2 s3 q) ea m))
-      (then-adds _ _ s3 s4 s5 c l (subst (λ k. Adds (gate (gates.Xor (top xs) k)) s3 s4 c) ed (subst (λ k. Adds (gate (gates.Xor k d)) s3 s4 c) ex g)) (subst (λ k. Adds (negate_if c k) s4 s5 l) eq n))))
+    (then-adds _ _ s3 s4 s5 c l (subst (λ k. Adds (gate (gates.Xor (top xs) k)) s3 s4 c) ed (subst (λ k. Adds (gate (gates.Xor k d)) s3 s4 c) ex g)) (subst (λ k. Adds (negate_if c k) s4 s5 l) eq n))))
 
 pub remainder_signed-adds : (xs ds as' bs as2 bs2 r r2 l : List ℤ) (x : ℤ) (s s1 s2 s3 s4 : Netlist) → as2 ≡ as' → bs2 ≡ bs → x ≡ top xs → r2 ≡ r
-      → Adds (magnitude xs) s s1 as' → Adds (magnitude ds) s1 s2 bs → Adds (remainder as2 bs2) s2 s3 r → Adds (negate_if x r2) s3 s4 l → Adds (remainder_signed xs ds) s s4 l
+    → Adds (magnitude xs) s s1 as' → Adds (magnitude ds) s1 s2 bs → Adds (remainder as2 bs2) s2 s3 r → Adds (negate_if x r2) s3 s4 l → Adds (remainder_signed xs ds) s s4 l
 unfolding remainder_signed
 remainder_signed-adds xs ds as' bs as2 bs2 r r2 l x s s1 s2 s3 s4 ea eb ex er a b m n =
     then-adds _ _ s s1 s4 as' l a (then-adds _ _ s1 s2 s4 bs l b (then-adds _ _ s2 s3 s4 r l (subst (λ k. Adds (remainder as' k) s2 s3 r) eb (subst (λ k. Adds (remainder k bs2) s2 s3 r) ea m))
-      (subst (λ k. Adds (negate_if (top xs) k) s3 s4 l) er (subst (λ k. Adds (negate_if k r2) s3 s4 l) ex n))))
+    (subst (λ k. Adds (negate_if (top xs) k) s3 s4 l) er (subst (λ k. Adds (negate_if k r2) s3 s4 l) ex n))))
 
 -- ---- shifts
 
@@ -69,12 +69,12 @@ unfolding stages
 stages-adds kind k c cs xs ms ys l s s1 t e a r = then-adds _ _ s s1 t ys l (subst (λ m. Adds (choose c m xs) s s1 ys) e a) r
 
 pub stages-more : (Q : Netlist → List ℤ → Type 0) (kind : Move) (k k2 : ℕ) (cs xs ms ys : List ℤ) (i : ℕ) (c : ℤ) (s s1 : Netlist) → i < length cs → c ≡ get_or cs i c → k2 ≡ k * 2 → ms ≡ move_of kind k xs → Adds (choose c ms xs) s s1 ys
-      → ((t : Netlist) (l : List ℤ) → Adds (stages (move_of kind) k (drop i cs) xs) s t l → Q t l)
-      → (t : Netlist) (l : List ℤ) → Adds (stages (move_of kind) k2 (drop (i + 1) cs) ys) s1 t l → Q t l
+    → ((t : Netlist) (l : List ℤ) → Adds (stages (move_of kind) k (drop i cs) xs) s t l → Q t l)
+    → (t : Netlist) (l : List ℤ) → Adds (stages (move_of kind) k2 (drop (i + 1) cs) ys) s1 t l → Q t l
 stages-more Q kind k k2 cs xs ms ys i c s s1 h ic ek e a whole t l rest =
     let double : k2 ≡ 2 * k = ek ∙ omega arith in
     whole t l (at_one (λ b. stages (move_of kind) k b xs) cs i c s t l h ic
-      (stages-adds kind k c (drop (i + 1) cs) xs ms ys l s s1 t e a (subst (λ j. Adds (stages (move_of kind) j (drop (i + 1) cs) ys) s1 t l) double rest)))
+    (stages-adds kind k c (drop (i + 1) cs) xs ms ys l s s1 t e a (subst (λ j. Adds (stages (move_of kind) j (drop (i + 1) cs) ys) s1 t l) double rest)))
 
 pub stages-end : (Q : Netlist → List ℤ → Type 0) (kind : Move) (k : ℕ) (cs xs : List ℤ) (i : ℕ) (s : Netlist) → length cs ≤ i → ((t : Netlist) (l : List ℤ) → Adds (stages (move_of kind) k (drop i cs) xs) s t l → Q t l) → Q s xs
 unfolding stages

@@ -67,7 +67,7 @@ pub word_value-neg : (v : ℤ → Bool) (G : Type 0) (n : ℕ) (ls : List ℤ) �
 word_value-neg v G n [] t h = refl
 word_value-neg v G n (l ∷ ls) t h =
     neg_step (flag (v (neg_ℤ l))) (flag (v l)) (word_value v (map neg_ℤ ls)) (word_value v ls) (2 ^ length ls) (2 ^ length (l ∷ ls))
-      (ap (λ b. flag b + flag (v l)) (t.opposite l h.0.some) ∙ flag-not (v l)) (word_value-neg v G n ls t h.1) (twice (length ls))
+    (ap (λ b. flag b + flag (v l)) (t.opposite l h.0.some) ∙ flag-not (v l)) (word_value-neg v G n ls t h.1) (twice (length ls))
 
 pub length-neg : (ls : List ℤ) → length (map neg_ℤ ls) ≡ length ls
 length-neg [] = refl

@@ -40,23 +40,23 @@ choose-wide {s} {t} c {ls} xs ys same a = ap length a.out ∙ pairwise-width _ x
 -- ---- rows
 
 rows-adds : (y f z : ℤ) (so xs ys row total ls : List ℤ) (s s1 s2 t : Netlist) → f ≡ falsity → z ≡ slice_index_or total 0 falsity → Adds (masked y xs) s s1 row → Adds (sum f so row) s1 s2 total
-      → Adds (rows (lower (drop 1 total)) (lower xs) ys) s2 t ls → Adds (rows so xs (y ∷ ys)) s t (z ∷ ls)
+    → Adds (rows (lower (drop 1 total)) (lower xs) ys) s2 t ls → Adds (rows so xs (y ∷ ys)) s t (z ∷ ls)
 unfolding rows
 rows-adds y f z so xs ys row total ls s s1 s2 t ef ez a b r =
     then-adds _ _ s s1 t row _ a (then-adds _ _ s1 s2 t total _ (subst (λ k. Adds (sum k so row) s1 s2 total) ef b)
-      (then-adds _ _ s2 t t ls _ r (subst (λ k. Adds (done (slice_index_or total 0 falsity ∷ ls)) t t (k ∷ ls)) (sym ez) (done-adds (slice_index_or total 0 falsity ∷ ls) t))))
+    (then-adds _ _ s2 t t ls _ r (subst (λ k. Adds (done (slice_index_or total 0 falsity ∷ ls)) t t (k ∷ ls)) (sym ez) (done-adds (slice_index_or total 0 falsity ∷ ls) t))))
 
 pub rows-more : (Q : Netlist → List ℤ → Type 0) (so xs ys row total so2 xs2 out next : List ℤ) (i : ℕ) (y f z : ℤ) (s s1 s2 : Netlist) → i < length ys → y ≡ get_or ys i y → z ≡ slice_index_or total 0 falsity → f ≡ falsity
-      → Adds (masked y xs) s s1 row → Adds (sum f so row) s1 s2 total → so2 ≡ lower (drop 1 total) → xs2 ≡ lower xs → next ≡ out ++ z ∷ []
-      → ((t : Netlist) (ls : List ℤ) → Adds (rows so xs (drop i ys)) s t ls → Q t (out ++ ls))
-      → (t : Netlist) (ls : List ℤ) → Adds (rows so2 xs2 (drop (i + 1) ys)) s2 t ls → Q t (next ++ ls)
+    → Adds (masked y xs) s s1 row → Adds (sum f so row) s1 s2 total → so2 ≡ lower (drop 1 total) → xs2 ≡ lower xs → next ≡ out ++ z ∷ []
+    → ((t : Netlist) (ls : List ℤ) → Adds (rows so xs (drop i ys)) s t ls → Q t (out ++ ls))
+    → (t : Netlist) (ls : List ℤ) → Adds (rows so2 xs2 (drop (i + 1) ys)) s2 t ls → Q t (next ++ ls)
 rows-more Q so xs ys row total so2 xs2 out next i y f z s s1 s2 h iy iz ef a b es ex e whole t ls rest =
     let r : Adds (rows (lower (drop 1 total)) (lower xs) (drop (i + 1) ys)) s2 t ls = subst (λ k. Adds (rows k (lower xs) (drop (i + 1) ys)) s2 t ls) es (subst (λ k. Adds (rows so2 k (drop (i + 1) ys)) s2 t ls) ex rest) in
     one_more (Q t) out next ls z e (whole t (z ∷ ls) (at_one (rows so xs) ys i y s t (z ∷ ls) h iy
-      (rows-adds y f z so xs (drop (i + 1) ys) row total ls s s1 s2 t ef iz a b r)))
+    (rows-adds y f z so xs (drop (i + 1) ys) row total ls s s1 s2 t ef iz a b r)))
 
 pub rows-end : (Q : Netlist → List ℤ → Type 0) (so xs ys out : List ℤ) (i : ℕ) (s : Netlist) → length ys ≤ i
-      → ((t : Netlist) (ls : List ℤ) → Adds (rows so xs (drop i ys)) s t ls → Q t (out ++ ls)) → Q s out
+    → ((t : Netlist) (ls : List ℤ) → Adds (rows so xs (drop i ys)) s t ls → Q t (out ++ ls)) → Q s out
 unfolding rows
 rows-end Q so xs ys out i s h whole =
     subst (Q s) (append-nil out) (whole s [] (subst (λ l. Adds (rows so xs l) s s []) (sym (drop_all i ys h)) (done-adds [] s)))
@@ -76,19 +76,19 @@ unfolding divide
 divide-none ds q r s eq er = subst (λ k. Adds (divide [] ds) s s (record { quotient = k; remainder = r })) (sym eq) (subst (λ k. Adds (divide [] ds) s s (record { quotient = []; remainder = k })) (sym er) (done-adds _ s))
 
 pub divide-adds : (x f z : ℤ) (xs ds others rest total low r0 q0 r q : List ℤ) (s s1 s2 s3 : Netlist) → Adds (divide xs ds) s s1 (record { quotient = q0; remainder = r0 }) → rest ≡ lower (x ∷ r0) → f ≡ truth → others ≡ map neg_ℤ ds
-      → Adds (sum f rest others) s1 s2 total → z ≡ top total → low ≡ lower total → Adds (choose z low rest) s2 s3 r → q ≡ z ∷ q0 → Adds (divide (x ∷ xs) ds) s s3 (record { quotient = q; remainder = r })
+    → Adds (sum f rest others) s1 s2 total → z ≡ top total → low ≡ lower total → Adds (choose z low rest) s2 s3 r → q ≡ z ∷ q0 → Adds (divide (x ∷ xs) ds) s s3 (record { quotient = q; remainder = r })
 unfolding divide
 divide-adds x f z xs ds others rest total low r0 q0 r q s s1 s2 s3 a er ef eo b ez el c eq =
     let b2 : Adds (sum truth (lower (x ∷ r0)) (map neg_ℤ ds)) s1 s2 total =
-        subst (λ k. Adds (sum truth (lower (x ∷ r0)) k) s1 s2 total) eo (subst (λ k. Adds (sum truth k others) s1 s2 total) er (subst (λ k. Adds (sum k rest others) s1 s2 total) ef b)) in
+    subst (λ k. Adds (sum truth (lower (x ∷ r0)) k) s1 s2 total) eo (subst (λ k. Adds (sum truth k others) s1 s2 total) er (subst (λ k. Adds (sum k rest others) s1 s2 total) ef b)) in
     let c2 : Adds (choose (top total) (lower total) (lower (x ∷ r0))) s2 s3 r =
-        subst (λ k. Adds (choose (top total) (lower total) k) s2 s3 r) er (subst (λ k. Adds (choose (top total) k rest) s2 s3 r) el (subst (λ k. Adds (choose k low rest) s2 s3 r) ez c)) in
+    subst (λ k. Adds (choose (top total) (lower total) k) s2 s3 r) er (subst (λ k. Adds (choose (top total) k rest) s2 s3 r) el (subst (λ k. Adds (choose k low rest) s2 s3 r) ez c)) in
     then-adds _ _ s s1 s3 (record { quotient = q0; remainder = r0 }) _ a (then-adds _ _ s1 s2 s3 total _ b2 (then-adds _ _ s2 s3 s3 r _ c2
-      (subst (λ k. Adds {A = Divided} (done {A = Divided} (record { quotient = top total ∷ q0; remainder = r })) s3 s3 (record { quotient = k; remainder = r })) (sym (eq ∙ ap (λ k. k ∷ q0) ez)) (done-adds _ s3))))
+    (subst (λ k. Adds {A = Divided} (done {A = Divided} (record { quotient = top total ∷ q0; remainder = r })) s3 s3 (record { quotient = k; remainder = r })) (sym (eq ∙ ap (λ k. k ∷ q0) ez)) (done-adds _ s3))))
 
 pub divide-more : (xs ds others rest total low r0 q0 r q : List ℤ) (i : ℕ) (x f z : ℤ) (s s1 s2 s3 : Netlist) → 0 < i → i ≤ length xs → x ≡ get_or xs (i - 1) x
-      → Adds (divide (drop i xs) ds) s s1 (record { quotient = q0; remainder = r0 }) → rest ≡ lower (x ∷ r0) → f ≡ truth → others ≡ map neg_ℤ ds
-      → Adds (sum f rest others) s1 s2 total → z ≡ top total → low ≡ lower total → Adds (choose z low rest) s2 s3 r → q ≡ z ∷ q0 → Adds (divide (drop (i - 1) xs) ds) s s3 (record { quotient = q; remainder = r })
+    → Adds (divide (drop i xs) ds) s s1 (record { quotient = q0; remainder = r0 }) → rest ≡ lower (x ∷ r0) → f ≡ truth → others ≡ map neg_ℤ ds
+    → Adds (sum f rest others) s1 s2 total → z ≡ top total → low ≡ lower total → Adds (choose z low rest) s2 s3 r → q ≡ z ∷ q0 → Adds (divide (drop (i - 1) xs) ds) s s3 (record { quotient = q; remainder = r })
 divide-more xs ds others rest total low r0 q0 r q i x f z s s1 s2 s3 some le ix a er ef eo b ez el c eq =
     let here : drop (i - 1) xs ≡ x ∷ drop (i - 1 + 1) xs = taken xs (i - 1) x (omega arith) ix in
     let back : i - 1 + 1 ≡ i = omega arith in

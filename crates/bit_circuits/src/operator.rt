@@ -6,8 +6,8 @@ ghost use Rattle.bit_circuits.specs.Binaries.{binary_bits};
 ghost use Rattle.bit_circuits.specs.Formula.{bits_at as bits_at_of};
 ghost use Rattle.bit_circuits.specs.Runs.{Adds};
 
-use crate::binary::Binary;
 use crate::arithmetic::{add, equal, less, less_signed, subtract};
+use crate::binary::Binary;
 use crate::gate_words::pairwise;
 use crate::literal::Literal;
 use crate::moving::Move;

@@ -37,12 +37,27 @@ fn divide(
         let x = xs[i];
         remainder.insert(0, x)?;
         remainder.pop();
-        let total = sum(alloc, netlist, truth(), remainder.as_slice(), others.as_slice())?;
+        let total = sum(
+            alloc,
+            netlist,
+            truth(),
+            remainder.as_slice(),
+            others.as_slice(),
+        )?;
         let fits = top(total.as_slice());
-        remainder = choose(alloc, netlist, fits, lower(total.as_slice()), remainder.as_slice())?;
+        remainder = choose(
+            alloc,
+            netlist,
+            fits,
+            lower(total.as_slice()),
+            remainder.as_slice(),
+        )?;
         quotient.insert(0, fits)?;
     }
-    Ok(Division { quotient, remainder })
+    Ok(Division {
+        quotient,
+        remainder,
+    })
 }
 
 /// The quotient, which is 0 where the divisor is.

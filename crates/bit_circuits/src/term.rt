@@ -174,7 +174,14 @@ pub fn terms_bits(
     let none = falses(alloc, 32)?;
     let mut words = Vec::new(alloc);
     for op in ops {
-        let word = op_bits(alloc, netlist, words.as_slice(), none.as_slice(), inputs, op)?;
+        let word = op_bits(
+            alloc,
+            netlist,
+            words.as_slice(),
+            none.as_slice(),
+            inputs,
+            op,
+        )?;
         words.push(word)?;
     }
     Ok(words)

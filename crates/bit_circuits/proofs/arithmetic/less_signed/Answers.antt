@@ -13,4 +13,4 @@ less-requires c =
 pub returns : goal.returns
 returns c =
     ok_more (λ bit. Adds (less_of c.as_slice.result.now c.as_slice-2.result.now) c.args.netlist.now c.less.new.netlist bit) (λ bit. Adds (less_signed_of c.args.xs.now c.args.ys.now) c.args.netlist.now c.less.new.netlist bit) c.less.result
-      (λ bit a. less_signed-adds c.args.xs.now c.args.ys.now _ _ bit _ _ (c.as_slice.ensures.value ∙ c.in_ok-one.ensures) (c.as_slice-2.ensures.value ∙ c.in_ok-other.ensures) a) c.less.ensures
+    (λ bit a. less_signed-adds c.args.xs.now c.args.ys.now _ _ bit _ _ (c.as_slice.ensures.value ∙ c.in_ok-one.ensures) (c.as_slice-2.ensures.value ∙ c.in_ok-other.ensures) a) c.less.ensures

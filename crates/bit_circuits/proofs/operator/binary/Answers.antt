@@ -62,17 +62,16 @@ pub returns-in_ok-bit-in-Eq : goal.returns-in_ok-bit-in-Eq
 unfolding binary_bits
 returns-in_ok-bit-in-Eq c =
     rw c.in-Eq.is (ok_more (λ word. word.items ≡ truth_word 32 c.in_ok-bit-in-Eq.bit) (λ bits. Adds (equal_of c.args.xs.now c.args.ys.now >>= (λ l. done (truth_word 32 l))) c.args.netlist.now c.equal.new.netlist bits.items) c.truth_word.result
-      (λ word e. flag-adds (equal_of c.args.xs.now c.args.ys.now) _ _ c.in_ok-bit-in-Eq.bit word.items c.in_ok-bit-in-Eq.ensures e) c.truth_word.ensures)
+    (λ word e. flag-adds (equal_of c.args.xs.now c.args.ys.now) _ _ c.in_ok-bit-in-Eq.bit word.items c.in_ok-bit-in-Eq.ensures e) c.truth_word.ensures)
 
 pub returns-in_ok-bit-in-LtU : goal.returns-in_ok-bit-in-LtU
 unfolding binary_bits
 returns-in_ok-bit-in-LtU c =
     rw c.in-LtU.is (ok_more (λ word. word.items ≡ truth_word 32 c.in_ok-bit-in-LtU.bit) (λ bits. Adds (less_of c.args.xs.now c.args.ys.now >>= (λ l. done (truth_word 32 l))) c.args.netlist.now c.less.new.netlist bits.items) c.truth_word-in-LtU.result
-      (λ word e. flag-adds (less_of c.args.xs.now c.args.ys.now) _ _ c.in_ok-bit-in-LtU.bit word.items c.in_ok-bit-in-LtU.ensures e) c.truth_word-in-LtU.ensures)
+    (λ word e. flag-adds (less_of c.args.xs.now c.args.ys.now) _ _ c.in_ok-bit-in-LtU.bit word.items c.in_ok-bit-in-LtU.ensures e) c.truth_word-in-LtU.ensures)
 
 pub returns-in_ok-bit-in-LtS : goal.returns-in_ok-bit-in-LtS
 unfolding binary_bits
 returns-in_ok-bit-in-LtS c =
     rw c.in-LtS.is (ok_more (λ word. word.items ≡ truth_word 32 c.in_ok-bit-in-LtS.bit) (λ bits. Adds (less_signed_of c.args.xs.now c.args.ys.now >>= (λ l. done (truth_word 32 l))) c.args.netlist.now c.less_signed.new.netlist bits.items) c.truth_word-in-LtS.result
-      (λ word e. flag-adds (less_signed_of c.args.xs.now c.args.ys.now) _ _ c.in_ok-bit-in-LtS.bit word.items c.in_ok-bit-in-LtS.ensures e) c.truth_word-in-LtS.ensures)
-
+    (λ word e. flag-adds (less_signed_of c.args.xs.now c.args.ys.now) _ _ c.in_ok-bit-in-LtS.bit word.items c.in_ok-bit-in-LtS.ensures e) c.truth_word-in-LtS.ensures)

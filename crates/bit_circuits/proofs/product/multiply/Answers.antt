@@ -26,17 +26,17 @@ loop-i-preserved c =
     let row-wide : length row ≡ length c.loop-i.rest.now = masked-wide _ c.loop-i.rest.now c.in_ok-row.ensures in
     let same : length so ≡ length row = c.loop-i.invariant.so_far ∙ sym c.loop-i.invariant.rest ∙ sym row-wide in
     let added : Adds (sum_of c.falsity.result so row) c.masked.new.netlist c.sum.new.netlist total =
-        subst (λ r. Adds (sum_of c.falsity.result so r) c.masked.new.netlist c.sum.new.netlist total) c.as_slice-in-loop-i.ensures.value
-          (subst (λ r. Adds (sum_of c.falsity.result r c.as_slice-in-loop-i.result.now) c.masked.new.netlist c.sum.new.netlist total) c.as_slice.ensures.value c.in_ok-total.ensures) in
+    subst (λ r. Adds (sum_of c.falsity.result so r) c.masked.new.netlist c.sum.new.netlist total) c.as_slice-in-loop-i.ensures.value
+    (subst (λ r. Adds (sum_of c.falsity.result r c.as_slice-in-loop-i.result.now) c.masked.new.netlist c.sum.new.netlist total) c.as_slice.ensures.value c.in_ok-total.ensures) in
     let total-wide : length total ≡ suc (suc k) = sum-wide _ so row same added ∙ ap suc (c.loop-i.invariant.so_far ∙ omega arith) in
     let next : c.in_ok-so_far-2.so_far.items ≡ lower (drop 1 total) =
-        c.in_ok-so_far-2.ensures.items ∙ c.lower.ensures ∙ ap lower (c.higher.ensures ∙ ap (drop 1) c.as_slice-in-loop-i-3.ensures.value) in
+    c.in_ok-so_far-2.ensures.items ∙ c.lower.ensures ∙ ap lower (c.higher.ensures ∙ ap (drop 1) c.as_slice-in-loop-i-3.ensures.value) in
     let first : c.lowest.result ≡ slice_index_or total 0 falsity = c.lowest.ensures ∙ ap (λ l. slice_index_or l 0 falsity) c.as_slice-in-loop-i-2.ensures.value in
     record {
       so_far = ap length next ∙ length-lower k (drop 1 total) (length-rest (suc k) total total-wide);
       rest = ap length c.lower-rest.ensures ∙ length-lower k c.loop-i.rest.now (c.loop-i.invariant.rest ∙ omega arith);
       whole = rows-more (λ t ls. Adds (multiply_of c.args.xs.now c.args.ys.now) c.args.netlist.now t ls) so c.loop-i.rest.now c.args.ys.now row total _ _ c.loop-i.bits.items _ c.loop-i.i c.index-ys-i.result c.falsity.result c.lowest.result
-        c.loop-i.netlist c.masked.new.netlist c.sum.new.netlist (omega arith) c.index-ys-i.is first c.falsity.ensures c.in_ok-row.ensures added next c.lower-rest.ensures c.in_ok-push.ensures.items c.loop-i.invariant.whole;
+          c.loop-i.netlist c.masked.new.netlist c.sum.new.netlist (omega arith) c.index-ys-i.is first c.falsity.ensures c.in_ok-row.ensures added next c.lower-rest.ensures c.in_ok-push.ensures.items c.loop-i.invariant.whole;
     }
 
 pub returns : goal.returns

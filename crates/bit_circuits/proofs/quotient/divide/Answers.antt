@@ -11,7 +11,7 @@ pub loop-i-init : goal.loop-i-init
 loop-i-init c = record {
   wide = ap length c.in_ok-remainder.ensures ∙ length-falses (length c.args.ds.now);
   whole = subst (λ l. Adds (divide_of l c.args.ds.now) c.args.netlist.now c.args.netlist.now (record { quotient = c.new-quotient.result.items; remainder = c.in_ok-remainder.remainder.items }))
-    (sym (drop_all (length c.args.xs.now) c.args.xs.now (omega arith))) (divide-none c.args.ds.now _ _ c.args.netlist.now c.new-quotient.ensures.items c.in_ok-remainder.ensures);
+      (sym (drop_all (length c.args.xs.now) c.args.xs.now (omega arith))) (divide-none c.args.ds.now _ _ c.args.netlist.now c.new-quotient.ensures.items c.in_ok-remainder.ensures);
 }
 
 pub choose-requires : goal.choose-requires
@@ -27,8 +27,8 @@ choose-requires c =
     let others : c.in_ok-others.others.items ≡ map neg_ℤ c.args.ds.now = c.in_ok-others.ensures in
     let total = c.in_ok-total.total.items in
     let added : Adds (sum_of c.truth.result c.pop.new.self.items c.in_ok-others.others.items) c.loop-i.netlist c.sum.new.netlist total =
-        subst (λ l. Adds (sum_of c.truth.result c.pop.new.self.items l) c.loop-i.netlist c.sum.new.netlist total) c.as_slice-in-loop-i.ensures.value
-          (subst (λ l. Adds (sum_of c.truth.result l c.as_slice-in-loop-i.result.now) c.loop-i.netlist c.sum.new.netlist total) c.as_slice.ensures.value c.in_ok-total.ensures) in
+    subst (λ l. Adds (sum_of c.truth.result c.pop.new.self.items l) c.loop-i.netlist c.sum.new.netlist total) c.as_slice-in-loop-i.ensures.value
+    (subst (λ l. Adds (sum_of c.truth.result l c.as_slice-in-loop-i.result.now) c.loop-i.netlist c.sum.new.netlist total) c.as_slice.ensures.value c.in_ok-total.ensures) in
     let others-wide : length c.in_ok-others.others.items ≡ k = ap length others ∙ length-neg c.args.ds.now in
     let total-wide : length total ≡ suc k = sum-wide _ c.pop.new.self.items c.in_ok-others.others.items (rest-wide ∙ sym others-wide) added ∙ ap suc rest-wide in
     let low : c.lower.result.now ≡ lower total = c.lower.ensures ∙ ap lower c.as_slice-in-loop-i-3.ensures.value in
@@ -47,18 +47,18 @@ loop-i-preserved c =
     let others : c.in_ok-others.others.items ≡ map neg_ℤ c.args.ds.now = c.in_ok-others.ensures in
     let total = c.in_ok-total.total.items in
     let added : Adds (sum_of c.truth.result c.pop.new.self.items c.in_ok-others.others.items) c.loop-i.netlist c.sum.new.netlist total =
-        subst (λ l. Adds (sum_of c.truth.result c.pop.new.self.items l) c.loop-i.netlist c.sum.new.netlist total) c.as_slice-in-loop-i.ensures.value
-          (subst (λ l. Adds (sum_of c.truth.result l c.as_slice-in-loop-i.result.now) c.loop-i.netlist c.sum.new.netlist total) c.as_slice.ensures.value c.in_ok-total.ensures) in
+    subst (λ l. Adds (sum_of c.truth.result c.pop.new.self.items l) c.loop-i.netlist c.sum.new.netlist total) c.as_slice-in-loop-i.ensures.value
+    (subst (λ l. Adds (sum_of c.truth.result l c.as_slice-in-loop-i.result.now) c.loop-i.netlist c.sum.new.netlist total) c.as_slice.ensures.value c.in_ok-total.ensures) in
     let others-wide : length c.in_ok-others.others.items ≡ k = ap length others ∙ length-neg c.args.ds.now in
     let total-wide : length total ≡ suc k = sum-wide _ c.pop.new.self.items c.in_ok-others.others.items (rest-wide ∙ sym others-wide) added ∙ ap suc rest-wide in
     let low : c.lower.result.now ≡ lower total = c.lower.ensures ∙ ap lower c.as_slice-in-loop-i-3.ensures.value in
     let low-wide : length c.lower.result.now ≡ k = ap length low ∙ length-lower k total total-wide in
     let r = c.in_ok-remainder-2.remainder.items in
     let chosen : Adds (choose_of c.top-fits.result c.lower.result.now c.pop.new.self.items) c.sum.new.netlist c.choose.new.netlist r =
-        subst (λ l. Adds (choose_of c.top-fits.result c.lower.result.now l) c.sum.new.netlist c.choose.new.netlist r) c.as_slice-in-loop-i-4.ensures.value c.in_ok-remainder-2.ensures in
+    subst (λ l. Adds (choose_of c.top-fits.result c.lower.result.now l) c.sum.new.netlist c.choose.new.netlist r) c.as_slice-in-loop-i-4.ensures.value c.in_ok-remainder-2.ensures in
     let fits : c.top-fits.result ≡ top total = c.top-fits.ensures ∙ ap top c.as_slice-in-loop-i-2.ensures.value in
     record {
       wide = choose-wide _ c.lower.result.now c.pop.new.self.items (low-wide ∙ sym rest-wide) chosen ∙ low-wide;
       whole = divide-more c.args.xs.now c.args.ds.now c.in_ok-others.others.items c.pop.new.self.items total c.lower.result.now r0 c.loop-i.quotient.items r _ c.loop-i.i x c.truth.result c.top-fits.result
-        c.args.netlist.now c.loop-i.netlist c.sum.new.netlist c.choose.new.netlist (omega arith) (omega arith) c.index-xs-i.is c.loop-i.invariant.whole rest c.truth.ensures others added fits low chosen c.in_ok-insert-2.ensures.items;
+          c.args.netlist.now c.loop-i.netlist c.sum.new.netlist c.choose.new.netlist (omega arith) (omega arith) c.index-xs-i.is c.loop-i.invariant.whole rest c.truth.ensures others added fits low chosen c.in_ok-insert-2.ensures.items;
     }

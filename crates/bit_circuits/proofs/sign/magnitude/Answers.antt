@@ -8,4 +8,4 @@ use Rattle.bit_circuits.proofs.sign.magnitude.Goals as goal
 pub returns : goal.returns
 returns c =
     ok_more (λ bits. Adds (negate_if_of c.top.result c.args.xs.now) c.args.netlist.now c.negate_if.new.netlist bits.items) (λ bits. Adds (magnitude_of c.args.xs.now) c.args.netlist.now c.negate_if.new.netlist bits.items) c.negate_if.result
-      (λ bits a. magnitude-adds c.top.result c.args.xs.now bits.items _ _ c.top.ensures a) c.negate_if.ensures
+    (λ bits a. magnitude-adds c.top.result c.args.xs.now bits.items _ _ c.top.ensures a) c.negate_if.ensures

@@ -11,5 +11,5 @@ quotient-requires c = let e : length c.as_slice-2.result.now ≡ length c.args.d
 pub returns : goal.returns
 returns c =
     ok_more (λ bits. Adds (negate_if_of c.in_ok-sign.sign c.as_slice-3.result.now) c.add.new.self c.negate_if.new.netlist bits.items) (λ bits. Adds (quotient_signed_of c.args.xs.now c.args.ds.now) c.args.netlist.now c.negate_if.new.netlist bits.items) c.negate_if.result
-      (λ bits a. quotient_signed-adds c.args.xs.now c.args.ds.now _ _ _ _ _ _ bits.items _ _ _ _ _ _ _ _ _ c.as_slice.ensures.value c.as_slice-2.ensures.value c.top.ensures c.top-2.ensures c.as_slice-3.ensures.value
-        c.in_ok-dividend.ensures c.in_ok-divisor.ensures c.in_ok-bits.ensures c.in_ok-sign.ensures a) c.negate_if.ensures
+    (λ bits a. quotient_signed-adds c.args.xs.now c.args.ds.now _ _ _ _ _ _ bits.items _ _ _ _ _ _ _ _ _ c.as_slice.ensures.value c.as_slice-2.ensures.value c.top.ensures c.top-2.ensures c.as_slice-3.ensures.value
+    c.in_ok-dividend.ensures c.in_ok-divisor.ensures c.in_ok-bits.ensures c.in_ok-sign.ensures a) c.negate_if.ensures

@@ -11,5 +11,5 @@ remainder-requires c = let e : length c.as_slice-2.result.now ≡ length c.args.
 pub returns : goal.returns
 returns c =
     ok_more (λ bits. Adds (negate_if_of c.top.result c.as_slice-3.result.now) c.remainder.new.netlist c.negate_if.new.netlist bits.items) (λ bits. Adds (remainder_signed_of c.args.xs.now c.args.ds.now) c.args.netlist.now c.negate_if.new.netlist bits.items) c.negate_if.result
-      (λ bits a. remainder_signed-adds c.args.xs.now c.args.ds.now _ _ _ _ _ _ bits.items _ _ _ _ _ _ c.as_slice.ensures.value c.as_slice-2.ensures.value c.top.ensures c.as_slice-3.ensures.value
-        c.in_ok-dividend.ensures c.in_ok-divisor.ensures c.in_ok-bits.ensures a) c.negate_if.ensures
+    (λ bits a. remainder_signed-adds c.args.xs.now c.args.ds.now _ _ _ _ _ _ bits.items _ _ _ _ _ _ c.as_slice.ensures.value c.as_slice-2.ensures.value c.top.ensures c.as_slice-3.ensures.value
+    c.in_ok-dividend.ensures c.in_ok-divisor.ensures c.in_ok-bits.ensures a) c.negate_if.ensures

@@ -11,20 +11,20 @@ pub returns-in-Input : goal.returns-in-Input
 unfolding op_bits
 returns-in-Input c =
     rw c.in-Input.is (ok_more (λ w. w.items ≡ input_bits c.in-Input.n) (λ w. Adds (done (input_bits c.in-Input.n)) c.args.netlist.now c.args.netlist.now w.items) c.input_bits.result
-      (λ w e. done-same (input_bits c.in-Input.n) w.items c.args.netlist.now e) c.input_bits.ensures)
+    (λ w e. done-same (input_bits c.in-Input.n) w.items c.args.netlist.now e) c.input_bits.ensures)
 
 pub returns-in-Const : goal.returns-in-Const
 unfolding op_bits
 returns-in-Const c =
     rw c.in-Const.is (ok_more (λ w. w.items ≡ constant 32 c.in-Const.n) (λ w. Adds (done (constant 32 c.in-Const.n)) c.args.netlist.now c.args.netlist.now w.items) c.constant.result
-      (λ w e. done-same (constant 32 c.in-Const.n) w.items c.args.netlist.now e) c.constant.ensures)
+    (λ w e. done-same (constant 32 c.in-Const.n) w.items c.args.netlist.now e) c.constant.ensures)
 
 pub returns-in-Not : goal.returns-in-Not
 unfolding op_bits
 returns-in-Not c =
     let bits = bits_at (map (λ w. w.items) c.args.words.now) c.in-Not.a in
     rw c.in-Not.is (ok_more (λ w. w.items ≡ map neg_ℤ c.bits_at.result.now) (λ w. Adds (done (map neg_ℤ bits)) c.args.netlist.now c.args.netlist.now w.items) c.turned.result
-      (λ w e. done-same (map neg_ℤ bits) w.items c.args.netlist.now (e ∙ ap (map neg_ℤ) c.bits_at.ensures)) c.turned.ensures)
+    (λ w e. done-same (map neg_ℤ bits) w.items c.args.netlist.now (e ∙ ap (map neg_ℤ) c.bits_at.ensures)) c.turned.ensures)
 
 pub returns-in-Neg : goal.returns-in-Neg
 unfolding op_bits

@@ -24,7 +24,7 @@ loop-op-preserved c =
     let added = rw c.as_slice.ensures.value at c.in_ok-word.ensures in
     let next : map items c.push.new.self.items ≡ words ++ w ∷ [] = ap (map items) c.in_ok-push.ensures.items ∙ map-append items c.loop-op.words.items (c.in_ok-word.word ∷ []) in
     let grown = words-more c.args.inputs words _ w c.loop-op.netlist c.op_bits.new.netlist c.loop-op.invariant.past
-        (over-at c.args.inputs c.args.ops.now c.loop-op.op-index _ (are-over c.args.inputs 0 c.args.ops.now c.requires.over) (omega arith)) c.loop-op.invariant.wide added in
+    (over-at c.args.inputs c.args.ops.now c.loop-op.op-index _ (are-over c.args.inputs 0 c.args.ops.now c.requires.over) (omega arith)) c.loop-op.invariant.wide added in
     record {
       past = grown.1;
       wide = subst (λ ws. Words (next_of c.op_bits.new.netlist) ws) (sym next) grown.0;

@@ -9,8 +9,8 @@ pub loop-i-preserved : goal.loop-i-preserved
 loop-i-preserved c =
     let n = c.loop-i.rest in
     let b : c.if-rest-eq0.bit ≡ cond (n % 2 == 0) falsity truth =
-        elim c.if-rest-eq0.branch [
-          then-rest-eq0 w ↦ w.bit-is ∙ w.falsity-bit.ensures ∙ sym (cond-true (n % 2 == 0) falsity truth (eq-eqb (n % 2) 0 w.if-rest-eq0.true))
-        | else-rest-eq0 w ↦ w.bit-is ∙ w.truth-bit.ensures ∙ sym (cond-false (n % 2 == 0) falsity truth (ne_eqb (n % 2) 0 w.if-rest-eq0.false))
-        ] in
+    elim c.if-rest-eq0.branch [
+      | then-rest-eq0 w ↦ w.bit-is ∙ w.falsity-bit.ensures ∙ sym (cond-true (n % 2 == 0) falsity truth (eq-eqb (n % 2) 0 w.if-rest-eq0.true))
+      | else-rest-eq0 w ↦ w.bit-is ∙ w.truth-bit.ensures ∙ sym (cond-false (n % 2 == 0) falsity truth (ne_eqb (n % 2) 0 w.if-rest-eq0.false))
+    ] in
     constant-more c.loop-i.word.items _ (constant_of 32 c.args.number) (32 - c.loop-i.i) (32 - (c.loop-i.i + 1)) n c.if-rest-eq0.bit c.in_ok-push.ensures.items (omega arith) b c.loop-i.invariant
