@@ -7,16 +7,20 @@ use crate::rows::rows_over;
 use crate::wrong::Wrong;
 use bound_cert::{by_fits, dual_bound};
 use lin_rows::{CountBox, Multipliers, Objective, Rows, meets};
-use std::alloc::Global;
+use std::alloc::{AllocError, Global};
 
 /// Whether counts meet rows.
 pub(crate) fn meeting(alloc: Global, rows: &str, counts_text: &str) -> Result<String, Wrong> {
-    let counts = counts(alloc, counts_text)?;
-    let text = met(alloc, rows, counts.as_slice())?;
+    let text = met(alloc, rows, counts_text)?;
     Ok(text.to_string(alloc)?)
 }
 
-fn met(alloc: Global, rows: &str, counts: &[u64]) -> Result<&'static str, Wrong> {
+fn met(alloc: Global, rows: &str, counts_text: &str) -> Result<&'static str, Wrong> {
+    let counts = counts(alloc, counts_text)?;
+    met_by(alloc, rows, counts.as_slice())
+}
+
+fn met_by(alloc: Global, rows: &str, counts: &[u64]) -> Result<&'static str, Wrong> {
     let rows = rows_over(alloc, counts.len(), rows)?;
     if counts.len() != rows.edges as usize {
         return Err(Wrong::Lengths);
@@ -36,12 +40,23 @@ pub(crate) fn fits(
     d: &str,
     y: &str,
 ) -> Result<String, Wrong> {
-    let by = multipliers(alloc, d, y)?;
-    let text = fitting(alloc, size(edges)? as usize, rows, &by)?;
+    let edges = size(edges)? as usize;
+    let text = fitting(alloc, edges, rows, (d, y))?;
     Ok(text.to_string(alloc)?)
 }
 
+// The same as a word; the multipliers are their divisor and their numbers.
 fn fitting(
+    alloc: Global,
+    edges: usize,
+    rows: &str,
+    by: (&str, &str),
+) -> Result<&'static str, Wrong> {
+    let by = multipliers(alloc, by.0, by.1)?;
+    fitting_of(alloc, edges, rows, &by)
+}
+
+fn fitting_of(
     alloc: Global,
     edges: usize,
     rows: &str,
@@ -64,11 +79,28 @@ pub(crate) fn bound(
     d: &str,
     y: &str,
 ) -> Result<String, Wrong> {
-    let objective = objective(alloc, costs)?;
     let by = multipliers(alloc, d, y)?;
-    match bound_over(alloc, rows, &objective, limits, &by)? {
-        Some(bound) => Ok(format!(in alloc; "{bound}")?),
-        None => Ok("leaves i128".to_string(alloc)?),
+    bound_by(alloc, rows, costs, limits, &by)
+}
+
+fn bound_by(
+    alloc: Global,
+    rows: &str,
+    costs: &str,
+    limits: &str,
+    by: &Multipliers,
+) -> Result<String, Wrong> {
+    let objective = objective(alloc, costs)?;
+    match bound_over(alloc, rows, &objective, limits, by) {
+        Ok(bound) => Ok(bound_told(alloc, bound)?),
+        Err(wrong) => Err(wrong),
+    }
+}
+
+fn bound_told(alloc: Global, bound: Option<i128>) -> Result<String, AllocError> {
+    match bound {
+        Some(bound) => format!(in alloc; "{bound}"),
+        None => "leaves i128".to_string(alloc),
     }
 }
 
@@ -79,9 +111,19 @@ fn bound_over(
     limits: &str,
     by: &Multipliers,
 ) -> Result<Option<i128>, Wrong> {
-    let rows = rows_over(alloc, objective.costs().len(), rows)?;
     let within = box_of(alloc, limits)?;
-    bound_of(&rows, objective, &within, by)
+    bound_within(alloc, rows, objective, &within, by)
+}
+
+fn bound_within(
+    alloc: Global,
+    rows: &str,
+    objective: &Objective,
+    within: &CountBox,
+    by: &Multipliers,
+) -> Result<Option<i128>, Wrong> {
+    let rows = rows_over(alloc, objective.costs().len(), rows)?;
+    bound_of(&rows, objective, within, by)
 }
 
 // The dual value, where the lists have the lengths that it asks for and the multipliers fit.

@@ -55,9 +55,13 @@ fn narrow(alloc: Global, rows: &str, within: &mut CountBox) -> Result<&'static s
 
 /// The limits of the parts of a box that is split at a count of an edge.
 pub(crate) fn split(alloc: Global, text: &str, edge: &str, value: &str) -> Result<String, Wrong> {
-    let within = box_of(alloc, text)?;
-    let parts = parts(alloc, &within, name(edge)?, count(value)?)?;
+    let parts = parts_of(alloc, text, name(edge)?, count(value)?)?;
     Ok(parts_told(alloc, parts.as_slice())?)
+}
+
+fn parts_of(alloc: Global, text: &str, edge: u16, value: u64) -> Result<Vec<CountBox>, Wrong> {
+    let within = box_of(alloc, text)?;
+    parts(alloc, &within, edge, value)
 }
 
 // The parts, where the edge and the value are ones at which the box is split.
