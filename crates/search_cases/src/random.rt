@@ -1,6 +1,6 @@
 //! Clauses that are drawn by a small generator.
 
-ghost use Rattle.std.specs.Prelude.{◌≤◌, ◌<◌, ◌≢◌};
+ghost use Rattle.std.specs.Prelude.{◌≤◌, ◌<◌, ◌+◌};
 
 /// A linear congruential generator modulo 2^64: each state is the last one times `FACTOR` plus `STEP`, and a number is
 /// drawn from its upper 32 bits.
