@@ -30,7 +30,7 @@ pub(crate) fn compared(alloc: Global, name: &str, inputs: usize) -> Result<Blast
     let mut operands = Vec::new(alloc);
     for number in 0..inputs {
         declared(alloc, &mut terms, "unsigned")?;
-        let input = [number as u32];
+        let input = [u32::try_from(number).ok().ok_or(Wrong::NoCase)?];
         operands.push(put_named(&mut terms, "input", input.as_slice())?)?;
     }
     let last = operands.pop().ok_or(Wrong::NoCase)?;
