@@ -1,7 +1,7 @@
 #!/usr/bin/env python3
-"""Checks that each name of the rule finder in docs/MAP.md exists: of a definition `crate: File.name, name` the file in the crate's
-specs/ and each name in them, of code and laws `crate::name` or `Type::name` a word of the crate's sources, of `crate`: `file.rt` the
-file, of a test program its stdin. Prints what is missing and ends with 1 if anything is."""
+"""Checks that each name of the rule finder in docs/MAP.md exists: of a definition `crate: File.name, name` the file in
+the crate's specs/ and each name in them, of code and laws `crate::name` or `Type::name` a word of the crate's sources,
+of `crate`: `file.rt` the file, of a test program its stdin. Prints what is missing and ends with 1 if anything is."""
 import glob
 import os
 import re
@@ -27,7 +27,7 @@ def definition_faults(cell):
     specs = text_of(crate, "specs", "antt")
     for name in re.findall(r"`([^`]*)`", cell):
         file, _, word = name.rpartition(": ")[2].rpartition(".")
-        if file and not os.path.exists(f"{TOP}/crates/{crate}/specs/{file}.antt"):
+        if file and not glob.glob(f"{TOP}/crates/{crate}/specs/**/{file}.antt", recursive=True):
             faults.append(f"{crate}: no specs/{file}.antt")
         if not has_word(specs, word):
             faults.append(f"{crate}: no {word} in specs/")
@@ -55,7 +55,7 @@ def code_faults(cell):
 def main():
     finder = open(f"{TOP}/docs/MAP.md").read().split("## Rule finder")[1]
     rows = [re.split(r"(?<!\\)\|", it)[1:-1] for it in finder.split("\n") if it.startswith("| ")][1:]
-    faults, crate_of = [], r"`(\w+)(::|:)"
+    faults = []
     for row in rows:
         rule, _, definition, code, law, worked = [it.strip() for it in row]
         law = "" if law.startswith(("clause", "contract")) else law
