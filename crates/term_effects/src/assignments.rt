@@ -73,15 +73,17 @@ fn put_element(
 {
     let slot = held(store, var);
     let ty = held_ty(slot);
-    let Some(elements) = array_in(slot) else {
-        return nowhere(alloc, terms);
-    };
-    let inside = within(terms, at.term, elements.len() as u32)?;
-    let after = replaced(alloc, terms, at.term, value.term, elements.as_slice())?;
-    put_slot(store, var, TermSlot::Numbers(ty, after));
-    let mut conditions = value.conditions;
-    conditions.push(inside)?;
-    joined(at.conditions, conditions)
+    match array_in(slot) {
+        None => nowhere(alloc, terms),
+        Some(elements) => {
+            let inside = within(terms, at.term, elements.len() as u32)?;
+            let after = replaced(alloc, terms, at.term, value.term, elements.as_slice())?;
+            put_slot(store, var, TermSlot::Numbers(ty, after));
+            let mut conditions = value.conditions;
+            conditions.push(inside)?;
+            joined(at.conditions, conditions)
+        }
+    }
 }
 
 /// Assigns to a scalar or to an element; the index comes before the value.
