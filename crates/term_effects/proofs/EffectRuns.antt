@@ -1,5 +1,5 @@
 -- The scripts of a statement's parts, one after the other, are the script of the statement.
-use Rattle.std.proofs.Common.{◌≡◌, ◌+◌, ◌-◌, ◌<◌, ◌≤◌, ◌^◌, ⊥, ℕ, zero, suc, List, [], ◌∷◌, ◌++◌, length, drop, get_or, slice_get, slice_set, Option, Some, None, refl, sym, ap, subst, ◌∙◌, arith, length-append}
+use Rattle.std.proofs.Common.{◌≡◌, ◌+◌, ◌-◌, ◌<◌, ◌≤◌, ◌^◌, ℕ, zero, suc, List, [], ◌∷◌, ◌++◌, length, drop, get_or, slice_get, slice_set, Option, Some, None, refl, sym, ap, subst, ◌∙◌, arith, length-append}
 use Rattle.c_tree.specs.declared.tree.Ty.{Ty}
 use Rattle.c_tree.specs.declared.tree.Var.{Var}
 use Rattle.c_tree.specs.declared.tree.Var.TheVariants.{Local}
