@@ -1,5 +1,5 @@
 -- The scripts of a statement's parts, one after the other, are the script of the statement.
-use Rattle.std.proofs.Common.{◌≡◌, ◌+◌, ◌-◌, ◌<◌, ◌≤◌, ◌^◌, ℕ, zero, suc, List, [], ◌∷◌, ◌++◌, length, drop, get_or, slice_get, slice_set, Option, Some, None, refl, sym, ap, subst, ◌∙◌, arith, length-append}
+use Rattle.std.proofs.Common.{◌≡◌, ◌-◌, ◌<◌, ◌≤◌, ◌^◌, ℕ, zero, suc, List, [], ◌∷◌, ◌++◌, length, get_or, slice_get, slice_set, Option, Some, None, refl, sym, ap, subst, ◌∙◌, arith, length-append}
 use Rattle.c_tree.specs.declared.tree.Ty.{Ty}
 use Rattle.c_tree.specs.declared.tree.Var.{Var}
 use Rattle.c_tree.specs.declared.tree.Var.TheVariants.{Local}
@@ -158,7 +158,6 @@ other_statement _ s h k l m = refl
 
 pub other_runs : {old new : Terms} {cs : List ℕ} (st : Stmt) (s : TermStore) → (st ≡ Empty → ⊥) → ((l : ℕ) (q : Option Expr) → st ≡ Scalar l q → ⊥) → ((l : ℕ) (es : List Expr) → st ≡ Array l es → ⊥) → ((p : Place) (q : Option BinOp) (e : Expr) → st ≡ Assign p q e → ⊥) → FitStore (length old.ops) s → Gives AllBelow zero_alone old new cs → Gives FitEffect (simple st s) old new (effect s cs)
 other_runs st s h k l m f g = same_script (other_statement st s h k l m) (nowhere_runs s f g)
-
 
 pub small_at : (ss : List Stmt) (i : ℕ) (st : Stmt) → HaveSmallLists ss → i < length ss → st ≡ get_or ss i st → HasSmallList st
 small_at [] i st h l e = absurd (omega arith)

@@ -24,7 +24,8 @@ pub(crate) fn replaced(
     requires value_in { value < length terms.old.ops }
     requires elements_in { AllBelow (length terms.old.ops) elements.now }
     requires few { length elements.now < 2 ^ 32 }
-    ensures { IfOk result (λ ns. Gives (AsMany (length elements.now)) (spec.replaced at 0 value elements.now) terms.old terms.new ns) }
+    ensures { IfOk result (λ ns.
+        Gives (AsMany (length elements.now)) (spec.replaced at 0 value elements.now) terms.old terms.new ns) }
 {
     let mut after = Items::new(alloc);
     for index in 0..elements.len() {

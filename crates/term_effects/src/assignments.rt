@@ -45,7 +45,8 @@ fn assigned_value(
     store: &TermStore,
 ) -> Result<Judged, NoMemory>
     requires { FitStore (length terms.old.ops) store.now }
-    ensures { IfOk result (λ j. Gives FitJudged (spec.assigned_value place.now op.now value.now store.now) terms.old terms.new j) }
+    ensures { IfOk result (λ j.
+        Gives FitJudged (spec.assigned_value place.now op.now value.now store.now) terms.old terms.new j) }
 {
     match op {
         None => expr(alloc, terms, value, store),
@@ -69,7 +70,9 @@ fn put_element(
     requires there { FitStore (length terms.old.ops) store.old }
     requires at_in { FitJudged (length terms.old.ops) at }
     requires value_in { FitJudged (length terms.old.ops) value }
-    ensures { IfOk result (λ cs. Gives FitEffect (spec.put_element store.old var (held_at store.old var) at value) terms.old terms.new (effect store.new cs)) }
+    ensures { IfOk result (λ cs.
+        Gives FitEffect (spec.put_element store.old var (held_at store.old var) at value)
+        terms.old terms.new (effect store.new cs)) }
 {
     let slot = held(store, var);
     let ty = held_ty(slot);
@@ -96,7 +99,8 @@ pub(crate) fn assign(
     store: &mut TermStore,
 ) -> Result<Items<u32>, NoMemory>
     requires { FitStore (length terms.old.ops) store.old }
-    ensures { IfOk result (λ cs. Gives FitEffect (spec.assign place.now op.now value.now store.old) terms.old terms.new (effect store.new cs)) }
+    ensures { IfOk result (λ cs.
+        Gives FitEffect (spec.assign place.now op.now value.now store.old) terms.old terms.new (effect store.new cs)) }
 {
     match place {
         Place::Scalar(x) => {

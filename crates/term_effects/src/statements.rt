@@ -26,7 +26,9 @@ fn declare(
     store: &mut TermStore,
 ) -> Result<Items<u32>, NoMemory>
     requires { FitStore (length terms.old.ops) store.old }
-    ensures { IfOk result (λ cs. Gives FitEffect (spec.simple (Stmt.Scalar local initial.now) store.old) terms.old terms.new (effect store.new cs)) }
+    ensures { IfOk result (λ cs.
+        Gives FitEffect (spec.simple (Stmt.Scalar local initial.now) store.old)
+        terms.old terms.new (effect store.new cs)) }
 {
     unset_local(local, store);
     match initial {
@@ -39,8 +41,8 @@ fn declare(
     }
 }
 
-// The declaration of an array, which keeps its type and length, and has no value while its list is evaluated; 0 stands after
-// the list (6.7.9 paragraphs 19 and 21).
+// The declaration of an array, which keeps its type and length, and has no value while its list is evaluated; 0 stands
+// after the list (6.7.9 paragraphs 19 and 21).
 fn declare_array(
     alloc: Global,
     terms: &mut Terms,
@@ -50,7 +52,8 @@ fn declare_array(
 ) -> Result<Items<u32>, NoMemory>
     requires there { FitStore (length terms.old.ops) store.old }
     requires few { length list.now ≤ 2 ^ 31 }
-    ensures { IfOk result (λ cs. Gives FitEffect (spec.simple (Stmt.Array local list.now) store.old) terms.old terms.new (effect store.new cs)) }
+    ensures { IfOk result (λ cs.
+        Gives FitEffect (spec.simple (Stmt.Array local list.now) store.old) terms.old terms.new (effect store.new cs)) }
 {
     let slot = held(store, Var::Local(local));
     let ty = held_ty(slot);
@@ -73,7 +76,8 @@ fn simple(
 ) -> Result<Items<u32>, NoMemory>
     requires there { FitStore (length terms.old.ops) store.old }
     requires small { HasSmallList statement.now }
-    ensures { IfOk result (λ cs. Gives FitEffect (spec.simple statement.now store.old) terms.old terms.new (effect store.new cs)) }
+    ensures { IfOk result (λ cs.
+        Gives FitEffect (spec.simple statement.now store.old) terms.old terms.new (effect store.new cs)) }
 {
     match statement {
         Stmt::Empty => Ok(Items::new(alloc)),
@@ -84,9 +88,11 @@ fn simple(
     }
 }
 
-/// Runs a node's statements one after the other on a store of terms, and answers the terms that are all nonzero exactly where
-/// they are defined. It refuses for want of memory alone, also where the store of terms is full; then nothing is said of the
-/// store, and further terms may stand in the store of terms.
+/// Runs a node's statements one after the other on a store of terms, and answers the terms that are all nonzero exactly
+/// where they are defined. Each term of the store is one of `terms`; no list of a declaration has more than 2^31
+/// expressions, as in every well-formed program. The conditions stand in the order of the statements, and those of an
+/// index before those of the value. It refuses for want of memory alone, also where `terms` is full; then nothing is
+/// said of the store, and further terms may stand in `terms`.
 pub fn all_simple(
     alloc: Global,
     terms: &mut Terms,
@@ -95,7 +101,8 @@ pub fn all_simple(
 ) -> Result<Items<u32>, NoMemory>
     requires there { FitStore (length terms.old.ops) store.old }
     requires small { HaveSmallLists statements.now }
-    ensures { IfOk result (λ cs. Gives FitEffect (spec.all_simple statements.now store.old) terms.old terms.new (effect store.new cs)) }
+    ensures { IfOk result (λ cs.
+        Gives FitEffect (spec.all_simple statements.now store.old) terms.old terms.new (effect store.new cs)) }
 {
     let mut conditions = Items::new(alloc);
     for statement in statements {
