@@ -1,4 +1,4 @@
--- Formulas of lists of edges: which formula is of a list, what its satisfying assignments say, and what it is worth that a search gave up.
+-- Formulas of lists of edges: which one is a list's, what its assignments say, and what giving up has to show.
 use Rattle.std.specs.Prelude.{◌≡◌, ℕ, Bool, IsTrue, List, length}
 use Rattle.c_tree.specs.declared.program.Program.{Program}
 use Rattle.c_tree.specs.declared.program.Input.{Input}
@@ -31,9 +31,11 @@ input_said p q values = input_of (TermsOf p q).terms values
 
 -- each satisfying assignment says an input that drives the list, and each input that drives it is said by one
 pub record SaysWhatDrives (p : Program) (q : List ℕ) (formula : Cnf) : Type 0 where
-  pub driven : (values : List Bool) → length values ≡ formula.variables → Satisfies values formula.clauses → IsDrivenBy p q (input_said p q values)
+  pub driven : (values : List Bool) → length values ≡ formula.variables → Satisfies values formula.clauses
+      → IsDrivenBy p q (input_said p q values)
   pub solved : (i : Input) → IsDrivenBy p q i
-      → (values : List Bool) × (length values ≡ formula.variables) × Satisfies values formula.clauses × (input_said p q values ≡ i)
+      → (values : List Bool) × (length values ≡ formula.variables) × Satisfies values formula.clauses
+      × (input_said p q values ≡ i)
 
 -- a log of n lines is worked for the formula of the list
 pub record HasWorkedLog (p : Program) (q : List ℕ) (n : ℕ) : Type 0 where
