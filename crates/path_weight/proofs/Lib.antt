@@ -1,0 +1,2 @@
+pub mod WeightLayers
+mod Sums
