@@ -1,13 +1,13 @@
 //! The dearest ways through a part of a flat graph.
 
-ghost use Rattle.std.specs.Prelude.{◌≡◌, ◌≤◌, ◌<◌, ◌^◌, ◌+◌, ◌*◌};
+ghost use Rattle.std.specs.Prelude.{◌≡◌, ◌≤◌, ◌<◌, ◌^◌, ◌+◌, ◌*◌, pos};
 ghost use Rattle.peak_laws.specs.Parts as spec;
 ghost use Rattle.peak_laws.specs.Magnitudes.{WayIsAtMost, WaysAreAtMost};
 
 use peak_laws::{Leaving, Ways};
 
 /// The dearer of two ways.
-pub(crate) fn greater(o: Option<u128>, p: Option<u128>) -> Option<u128>
+pub fn greater(o: Option<u128>, p: Option<u128>) -> Option<u128>
     ensures { result ≡ spec.greater o p }
 {
     match o {
@@ -20,7 +20,7 @@ pub(crate) fn greater(o: Option<u128>, p: Option<u128>) -> Option<u128>
 }
 
 /// The way with `c` before it.
-pub(crate) fn more(c: u128, o: Option<u128>) -> Option<u128>
+pub fn more(c: u128, o: Option<u128>) -> Option<u128>
     requires c { c ≤ 2 ^ 126 }
     requires o { WayIsAtMost o (2 ^ 126) }
     ensures { result ≡ spec.more c o }
@@ -32,7 +32,7 @@ pub(crate) fn more(c: u128, o: Option<u128>) -> Option<u128>
 }
 
 /// Two ways, one after the other.
-pub(crate) fn both(o: Option<u128>, p: Option<u128>) -> Option<u128>
+pub fn both(o: Option<u128>, p: Option<u128>) -> Option<u128>
     requires o { WayIsAtMost o (2 ^ 126) }
     requires p { WayIsAtMost p (2 ^ 126) }
     ensures { result ≡ spec.both o p }
@@ -43,7 +43,7 @@ pub(crate) fn both(o: Option<u128>, p: Option<u128>) -> Option<u128>
     }
 }
 
-pub(crate) fn only_next(o: Option<u128>) -> Ways
+pub fn only_next(o: Option<u128>) -> Ways
     ensures { result ≡ spec.only_next o }
 {
     Ways {
@@ -54,7 +54,7 @@ pub(crate) fn only_next(o: Option<u128>) -> Ways
     }
 }
 
-pub(crate) fn block_ways(c: u128, leaving: Leaving) -> Ways
+pub fn block_ways(c: u128, leaving: Leaving) -> Ways
     ensures { result ≡ spec.block_ways c leaving }
 {
     let none = only_next(None);
@@ -76,7 +76,7 @@ pub(crate) fn block_ways(c: u128, leaving: Leaving) -> Ways
 }
 
 /// Of two parts, one after the other.
-pub(crate) fn then_ways(a: Ways, b: Ways) -> Ways
+pub fn then_ways(a: Ways, b: Ways) -> Ways
     requires a { WaysAreAtMost a (2 ^ 126) }
     requires b { WaysAreAtMost b (2 ^ 126) }
     ensures { result ≡ spec.then_ways a b }
@@ -91,7 +91,7 @@ pub(crate) fn then_ways(a: Ways, b: Ways) -> Ways
 
 /// Of a condition of the cost `c`, with two parts.
 #[tactic(auto, using(peak_laws::proofs::Magnitudes::most_greater))]
-pub(crate) fn choice_ways(c: u128, a: Ways, b: Ways) -> Ways
+pub fn choice_ways(c: u128, a: Ways, b: Ways) -> Ways
     requires c { c ≤ 2 ^ 126 }
     requires a { WaysAreAtMost a (2 ^ 126) }
     requires b { WaysAreAtMost b (2 ^ 126) }
@@ -106,7 +106,7 @@ pub(crate) fn choice_ways(c: u128, a: Ways, b: Ways) -> Ways
 }
 
 /// The way through a loop's body that leads back to its condition.
-pub(crate) fn back(a: Ways) -> Option<u128>
+pub fn back(a: Ways) -> Option<u128>
     ensures { result ≡ spec.back a }
 {
     greater(a.next, a.continues)
@@ -114,7 +114,7 @@ pub(crate) fn back(a: Ways) -> Option<u128>
 
 /// What a dearest full turn costs, or 0 where no full turn exists: `c` is the cost of the condition and the step.
 #[tactic(auto, using(peak_laws::proofs::Magnitudes::most_greater))]
-pub(crate) fn turn_cost(c: u128, a: Ways) -> u128
+pub fn turn_cost(c: u128, a: Ways) -> u128
     requires c { c ≤ 2 ^ 126 }
     requires a { WaysAreAtMost a (2 ^ 126) }
     ensures { result ≡ spec.turn_cost c (spec.back a) }
@@ -125,8 +125,17 @@ pub(crate) fn turn_cost(c: u128, a: Ways) -> u128
     }
 }
 
+/// The multiplier of a loop's turn: what a dearest full turn costs.
+pub fn turn_multiplier(c: u128, a: Ways) -> i128
+    requires c { c ≤ 2 ^ 125 }
+    requires a { WaysAreAtMost a (2 ^ 126) }
+    ensures { result ≡ pos (spec.turn_cost c (spec.back a)) }
+{
+    turn_cost(c, a) as i128
+}
+
 /// Of `while` and `for` with the condition's cost `c`, a bound of `m + 1` and turns that cost `y`.
-pub(crate) fn while_ways(c: u128, m: u128, y: u128, a: Ways) -> Ways
+pub fn while_ways(c: u128, m: u128, y: u128, a: Ways) -> Ways
     requires room { (m + 1) * y + c ≤ 2 ^ 126 }
     requires m { m < 2 ^ 32 }
     requires a { WaysAreAtMost a (2 ^ 126) }
@@ -143,7 +152,7 @@ pub(crate) fn while_ways(c: u128, m: u128, y: u128, a: Ways) -> Ways
 
 /// Of `do`.
 #[tactic(auto, using(peak_laws::proofs::Magnitudes::most_greater))]
-pub(crate) fn do_ways(c: u128, m: u128, y: u128, a: Ways) -> Ways
+pub fn do_ways(c: u128, m: u128, y: u128, a: Ways) -> Ways
     requires room { m * y + c ≤ 2 ^ 126 }
     requires a { WaysAreAtMost a (2 ^ 126) }
     ensures { result ≡ spec.do_ways c m y a }
@@ -157,7 +166,7 @@ pub(crate) fn do_ways(c: u128, m: u128, y: u128, a: Ways) -> Ways
 }
 
 /// Of a callee's body.
-pub(crate) fn body_ways(a: Ways) -> Ways
+pub fn body_ways(a: Ways) -> Ways
     ensures { result ≡ spec.body_ways a }
 {
     only_next(greater(greater(a.next, a.breaks), greater(a.continues, a.returns)))
