@@ -1,9 +1,8 @@
 -- Edges, loops and caps of what is laid out are those of the graph.
-use Rattle.std.proofs.Common.{◌≡◌, ℕ, ◌+◌, ◌-◌, ◌^◌, ◌<◌, ◌≤◌, min, Bool, true, false, if◌then◌else◌, List, [], ◌∷◌, ◌++◌, length, drop, get_or, Option, Some, None, refl, sym, ap, ◌∙◌, subst, arith, append_assoc, append-nil, length-append}
+use Rattle.std.proofs.Common.{◌≡◌, ℕ, ◌+◌, ◌-◌, ◌^◌, ◌<◌, ◌≤◌, min, Bool, true, false, if◌then◌else◌, List, [], ◌∷◌, ◌++◌, length, Option, Some, None, refl, sym, ap, ◌∙◌, subst, arith, append_assoc, append-nil, length-append}
 use Rattle.std.specs.Prelude.{map, nat_lt}
 use Rattle.c_tree.specs.declared.program.BlockName.{BlockName}
 use Rattle.flow_laws.specs.declared.graph.Edge.{Edge}
-use Rattle.flow_laws.specs.declared.graph.Loop.{Loop}
 use Rattle.flow_laws.specs.Sites.{Content, Entry, Exit, Simple, Test, Jump, Give, Enter, Missing, Land, Site}
 use Rattle.flow_laws.specs.Graphs.{edges, edges_from, outs, loops, loops_at, loop_copies, loop_of, positions, first_out}
 use Rattle.flow_laws.proofs.Turned.{AllTested, IsTested}
@@ -11,9 +10,6 @@ use Rattle.flow_graph.proofs.Tame.{BlockWithin, BlocksWithin}
 use Rattle.std.proofs.Math.Seq.{take-append_seam}
 use Rattle.std.proofs.lemmas.List.{map-append}
 use Rattle.std.proofs.lemmas.Bool.{lt-ltb, ltb-true, ltb-false, le-ltb}
-use Rattle.graph_lists.specs.declared.spot.Ends.{Ends}
-use Rattle.graph_lists.specs.declared.spot.Ends.TheVariants as ends
-use Rattle.graph_lists.specs.declared.spot.Spot.{Spot}
 use Rattle.graph_lists.specs.Amounts.{kept}
 use Rattle.flow_graph.specs.Spots.{spot_of, spots, ends_of, turn_of}
 use Rattle.graph_lists.specs.Joints.{outs_of, spot_outs, spot_edges, turn_enters, spot_loops, ends_loops, block_above, spot_above}

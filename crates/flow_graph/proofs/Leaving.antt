@@ -1,5 +1,5 @@
 -- The edges that leave a node are those that are laid out for it, and a loop copy stands where it is laid out.
-use Rattle.std.proofs.Common.{◌≡◌, ◌<◌, ◌⊎◌, inl, inr, ℕ, zero, suc, ◌+◌, List, [], ◌∷◌, ◌++◌, length, take, drop, get_or, Some, None, refl, sym, ap, ◌∙◌, subst, arith, append_assoc, length-append}
+use Rattle.std.proofs.Common.{◌≡◌, ◌<◌, ◌⊎◌, inl, inr, ℕ, zero, suc, ◌+◌, List, [], ◌∷◌, ◌++◌, length, take, Some, None, refl, sym, ap, ◌∙◌, subst, arith, length-append}
 use Rattle.std.specs.Prelude.{slice_get, slice_index_or, map}
 use Rattle.std.proofs.lemmas.List.{map-append}
 use Rattle.flow_laws.specs.declared.graph.Way.TheVariants.{Next, True, False}
@@ -9,8 +9,6 @@ use Rattle.flow_laws.specs.Graphs.{edges, edges_from, outs, first_out, leaves, l
 use Rattle.flow_laws.proofs.Turned.{AllTested, IsTested}
 use Rattle.graph_lists.specs.declared.onward.Outs.{Outs}
 use Rattle.graph_lists.specs.declared.onward.Outs.TheVariants.{Nowhere}
-use Rattle.graph_lists.specs.declared.interval.Span.{Span}
-use Rattle.graph_lists.specs.declared.spot.Spot.{Spot}
 use Rattle.flow_graph.specs.Spots.{spot_of, spots, ends_of}
 use Rattle.graph_lists.specs.Joints.{outs_of}
 use Rattle.graph_lists.specs.Leaving.{IsOutBy, Leave, IsAmong, AreOuts, outs_from, all_outs}

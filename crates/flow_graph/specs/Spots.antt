@@ -1,6 +1,5 @@
 -- Nodes as they are laid out: without their statements, and with caps that stay at the last number of 64 bits. This project's own.
 use Rattle.std.specs.Prelude.{List, map, Option, Some, None}
-use Rattle.c_tree.specs.declared.program.BlockName.{BlockName}
 use Rattle.flow_laws.specs.declared.graph.Node.{Node}
 use Rattle.flow_laws.specs.Sites.{LoopCopy, Content, Entry, Exit, Simple, Test, Jump, Give, Enter, Missing, Land, Site, call_of}
 use Rattle.graph_lists.specs.declared.spot.Turn.{Turn}

@@ -16,7 +16,8 @@ use crate::layout::EACH;
 use crate::unfold::lay_out;
 use c_tree::{Costs, NoMemory, Program};
 use graph_lists::{
-    Spot, Weights, amounts, edges_of, first_above, loops_of, outs_by_node, spans_of, touches_by_edge,
+    Spot, Weights, amounts, edges_of, first_above, loops_of, outs_by_node, spans_of,
+    touches_by_edge,
 };
 use sqlite_items::Items;
 use std::alloc::Global;

@@ -8,7 +8,8 @@ use c_tree::NoMemory;
 use sqlite_items::Items;
 use std::alloc::Global;
 
-/// Where a copy of a loop stands: its nodes are those from `from` on that are below `past`, and `test` is that of its condition.
+/// Where a copy of a loop stands: its nodes are those from `from` on that are below `past`, and `test` is that of its
+/// condition.
 #[derive(Clone, Copy, Debug, PartialEq, Eq)]
 pub struct Span {
     pub from: u32,

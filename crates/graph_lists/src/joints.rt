@@ -43,11 +43,7 @@ fn push_edge(from: u32, to: u32, way: Way, edges: &mut Items<Edge>) -> Result<()
 }
 
 /// The loop copies, by their conditions' nodes.
-pub fn loops_of(
-    alloc: Global,
-    spots: &[Spot],
-    edges: &[Edge],
-) -> Result<Items<Loop>, NoMemory>
+pub fn loops_of(alloc: Global, spots: &[Spot], edges: &[Edge]) -> Result<Items<Loop>, NoMemory>
     requires edges { edges.now ≡ spot_edges 0 spots.now }
     requires few { length edges.now ≤ 2048 }
     ensures { IfOk result (λ ls. ls ≡ spot_loops edges.now 0 spots.now) }

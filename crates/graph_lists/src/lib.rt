@@ -1,5 +1,5 @@
-//! The lists from which a plan is laid out: what a function counts with its calls inlined, and of nodes as they are laid
-//! out the edges, the loop copies, what leaves each node, where loop copies stand and what each edge does to loops.
+//! The lists from which a plan is laid out: what a function counts with its calls inlined, and of nodes as they are
+//! laid out the edges, the loop copies, what leaves each node, where loop copies stand and what an edge does to loops.
 #![tactic(auto)]
 
 mod interval;

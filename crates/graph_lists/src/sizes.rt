@@ -1,5 +1,5 @@
-//! How many nodes, block copies and edges a function has with its calls inlined. Sums that leave 64 bits stay at the last
-//! number, so that a program whose calls inline without bound is measured in time linear in its text.
+//! How many nodes, block copies and edges a function has with its calls inlined. Sums that leave 64 bits stay at the
+//! last number, so that a program whose calls inline without bound is measured in time linear in its text.
 
 ghost use Rattle.std.specs.Prelude.{◌≡◌, IfOk, false, []};
 ghost use Rattle.graph_lists.specs.Amounts.{plus, amount, list_amount, held_amount, begun_amount, call_amount, amounts};
@@ -17,11 +17,7 @@ pub struct Weights {
 }
 
 /// The amount of each function, over those above it.
-pub fn amounts(
-    alloc: Global,
-    funcs: &[Func],
-    weights: Weights,
-) -> Result<Items<u64>, NoMemory>
+pub fn amounts(alloc: Global, funcs: &[Func], weights: Weights) -> Result<Items<u64>, NoMemory>
     ensures { IfOk result (λ sums. sums ≡ amounts weights [] funcs.now) }
 {
     let mut sums = Items::new(alloc);

@@ -3,8 +3,8 @@
 use c_tree::BlockName;
 use flow_laws::Node;
 
-/// A copy of a loop: its nodes are those from `from` on that are below `past`. `bound` is how often its body may be entered,
-/// and `at_end` tells `do`.
+/// A copy of a loop: its nodes are those from `from` on that are below `past`. `bound` is how often its body may be
+/// entered, and `at_end` tells `do`.
 #[derive(Clone, Copy)]
 pub struct Turn {
     pub from: u32,

@@ -5,7 +5,7 @@ use Rattle.ipet_peak.specs.declared.tree.Tree.{Tree}
 use Rattle.ipet_peak.specs.declared.tree.Tree.TheVariants as tree
 use Rattle.ipet_peak.specs.declared.tree.Tree.TheBlock.{shape-the_row-Tree-0, hidden-the_row-Tree-0}
 use denote.Hole.Carrier.{hidden}
-use Rattle.peak_laws.specs.Parts.{Nothing, Block, Then, Choice, While, Do, Body, turn, turn_cost, back, dearest_ways}
+use Rattle.peak_laws.specs.Parts.{Nothing, Block, Then, Choice, While, Do, Body, turn, dearest_ways}
 use Rattle.peak_laws.specs.declared.ways.Leaving.{Leaving}
 use Rattle.peak_laws.specs.declared.ways.Ways.{Ways}
 use Rattle.peak_laws.specs.Magnitudes.{cap_cost, WaysAreAtMost}

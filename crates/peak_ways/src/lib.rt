@@ -4,6 +4,6 @@
 mod ways;
 
 pub use ways::{
-    back, block_ways, body_ways, both, choice_ways, do_ways, greater, more, only_next, then_ways, turn_cost,
-    turn_multiplier, while_ways,
+    back, block_ways, body_ways, both, choice_ways, do_ways, greater, more, only_next, then_ways,
+    turn_cost, turn_multiplier, while_ways,
 };

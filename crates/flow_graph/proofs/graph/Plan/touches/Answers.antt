@@ -1,4 +1,4 @@
-use Rattle.std.proofs.Common.{◌∙◌, ◌<◌, ◌≡◌, ap, sym, subst, length, arith}
+use Rattle.std.proofs.Common.{◌∙◌, ◌<◌, ap, sym, subst, length, arith}
 use Rattle.flow_laws.specs.Graphs.{graph, edges, loops}
 use Rattle.flow_graph.specs.Plans.{Planned}
 use Rattle.graph_lists.specs.Touches.{touches_of}
