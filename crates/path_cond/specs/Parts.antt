@@ -1,17 +1,14 @@
 -- Scripts that are parts of those of the definitions. This project's own.
-use Rattle.std.specs.Prelude.{◌<◌, ℕ, ◌+◌, ◌-◌, if◌then◌else◌, List, [], ◌∷◌, ◌++◌, length, Option, Some, None}
-use Rattle.c_tree.specs.declared.tree.Ty.{Ty}
+use Rattle.std.specs.Prelude.{◌<◌, ℕ, ◌+◌, if◌then◌else◌, List, Option, Some, None}
 use Rattle.c_tree.specs.declared.tree.Var.{Var}
 use Rattle.c_tree.specs.declared.tree.Var.TheVariants.{Local as LocalVar}
 use Rattle.c_tree.specs.declared.tree.Target.{Target}
 use Rattle.c_tree.specs.declared.tree.Target.TheVariants.{Nothing, Assign, Declare}
 use Rattle.c_tree.specs.declared.program.Local.{Local}
 use Rattle.c_tree.specs.declared.program.Global.{Global}
-use Rattle.bv_term.specs.declared.op.Op.TheVariants as op
-use Rattle.bv_term.specs.Scripts.{Script, put, pure, ◌>>=◌}
+use Rattle.bv_term.specs.Scripts.{Script, pure}
 use Rattle.cond_laws.specs.declared.store.TermSlot.{TermSlot}
-use Rattle.cond_laws.specs.declared.store.TermSlot.TheVariants.{Number, Numbers}
-use Rattle.cond_laws.specs.TermStores.{zeros}
+use Rattle.cond_laws.specs.declared.store.TermSlot.TheVariants.{Number}
 use Rattle.cond_laws.specs.TermPaths.{fresh, inputs, numbers, width}
 
 -- the slot of a local as a call begins, of a parameter with its argument
@@ -26,15 +23,6 @@ global_terms g k = if g.outer then inputs k (width g.length) else numbers g.ty g
 -- the number of the input behind those of a global
 abbrev pub behind : Global → ℕ → ℕ
 behind g k = if g.outer then k + width g.length else k
-
--- a global that is no array
-abbrev pub scalar_slot : Ty → List ℕ → Script TermSlot
-scalar_slot t [] = do z ← put (op.Const 0); pure (Number t z)
-scalar_slot t (x ∷ xs) = pure (Number t x)
-
--- a global array of n elements
-abbrev pub array_slot : Ty → ℕ → List ℕ → Script TermSlot
-array_slot t n xs = do zs ← zeros (n - length xs); pure (Numbers t (xs ++ zs))
 
 -- the argument of a parameter is there
 abbrev pub BelowIfGiven : ℕ → Option ℕ → Type 0

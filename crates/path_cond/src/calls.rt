@@ -14,7 +14,7 @@ use crate::memory::Memory;
 use bv_term::Terms;
 use c_tree::{Expr, Local, NoMemory, Target, Ty, Var};
 use cond_laws::{Returned, TermSlot, TermStore};
-use sqlite_items::Items;
+use sqlite_items::{Items, at as item_at};
 use std::alloc::Global;
 use std::mem;
 use term_effects::{nowhere, put_term, unset_local, zeros};
@@ -64,7 +64,7 @@ pub(crate) fn entry_slots(
 {
     let mut slots = Items::new(alloc);
     for at in 0..locals.len() {
-        let slot = entry_slot(alloc, terms, &locals[at], given.get(at))?;
+        let slot = entry_slot(alloc, terms, &locals[at], item_at(given, at))?;
         slots.push(slot)?;
     }
     Ok(slots)
@@ -107,13 +107,12 @@ pub(crate) fn enter(
 fn result_of(ty: Option<Ty>, value: Option<Returned>) -> Option<Returned>
     ensures { result ≡ spec.result_of ty value }
 {
-    match ty {
-        Some(ty) => match value {
-            Some(value) => Some(Returned { ty, term: value.term }),
-            None => None,
-        },
-        None => value,
-    }
+    let ty = ty?;
+    let value = value?;
+    Some(Returned {
+        ty,
+        term: value.term,
+    })
 }
 
 // The variable to which the result of a call goes.

@@ -1,6 +1,6 @@
 //! The inputs of a program, declared in order: the parameters of the entry function, then the extern variables.
 
-ghost use Rattle.std.specs.Prelude.{◌≡◌, ◌≤◌, ◌+◌, ◌++◌, [], length, map, replicate, OnOk};
+ghost use Rattle.std.specs.Prelude.{◌≡◌, ◌≤◌, ◌+◌, ◌++◌, [], ◌∷◌, length, map, replicate, OnOk};
 ghost use Rattle.c_tree.specs.Runs.{input_types, outer_types};
 ghost use Rattle.c_tree.specs.WellFormed.{WellFormed};
 ghost use Rattle.cond_laws.specs.TermPaths as spec;
@@ -19,14 +19,24 @@ pub(crate) fn width(length: Option<u32>) -> u32
     }
 }
 
+// Whether numbers of the type have a sign.
+fn is_signed(ty: Ty) -> bool
+    ensures { result ≡ is_signed ty }
+{
+    match ty {
+        Ty::Int => true,
+        Ty::Unsigned => false,
+    }
+}
+
 // So many inputs of a type.
 fn declare_each(terms: &mut Terms, ty: Ty, count: u32) -> Result<(), NoMemory>
     requires { length terms.old.inputs + count ≤ 64 }
     ensures inputs { OnOk result (terms.new.inputs ≡ terms.old.inputs ++ replicate count (is_signed ty)) }
     ensures ops { terms.new.ops ≡ terms.old.ops }
 {
-    for _ in 0..count {
-        terms.declare(ty == Ty::Int)?;
+    for k in 0..count {
+        terms.declare(is_signed(ty))?;
     }
     Ok(())
 }
@@ -38,9 +48,22 @@ fn declare_params(terms: &mut Terms, params: &[Local]) -> Result<(), NoMemory>
     ensures ops { terms.new.ops ≡ terms.old.ops }
 {
     for param in params {
-        terms.declare(param.ty == Ty::Int)?;
+        terms.declare(is_signed(param.ty))?;
     }
     Ok(())
+}
+
+// The inputs of a global, if it is an extern one.
+fn declare_global(terms: &mut Terms, global: &Global) -> Result<(), NoMemory>
+    requires { length terms.old.inputs + length (outer_types (global.now ∷ [])) ≤ 64 }
+    ensures inputs { OnOk result (terms.new.inputs ≡ terms.old.inputs ++ map is_signed (outer_types (global.now ∷ []))) }
+    ensures ops { terms.new.ops ≡ terms.old.ops }
+{
+    if global.outer {
+        declare_each(terms, global.ty, width(global.length))
+    } else {
+        Ok(())
+    }
 }
 
 // The inputs of the extern variables.
@@ -50,9 +73,7 @@ fn declare_globals(terms: &mut Terms, globals: &[Global]) -> Result<(), NoMemory
     ensures ops { terms.new.ops ≡ terms.old.ops }
 {
     for global in globals {
-        if global.outer {
-            declare_each(terms, global.ty, width(global.length))?;
-        }
+        declare_global(terms, global)?;
     }
     Ok(())
 }

@@ -1,6 +1,6 @@
 //! The memory that a run begins with (C11 6.7.9, 6.9.1).
 
-ghost use Rattle.std.specs.Prelude.{◌≡◌, ◌<◌, ◌≤◌, ◌+◌, ◌^◌, true, length, IfOk};
+ghost use Rattle.std.specs.Prelude.{◌≡◌, ◌<◌, ◌≤◌, ◌+◌, ◌^◌, true, length, None, Some, IfOk};
 ghost use Rattle.c_tree.specs.Runs.{input_types, outer_types};
 ghost use Rattle.c_tree.specs.Values.{is_of};
 ghost use Rattle.c_tree.specs.WellFormed.{AreNumbersOf, IsLength, WellFormed, WellFormedGlobal, WellFormedGlobals};
@@ -63,7 +63,7 @@ fn numbers(alloc: Global, terms: &mut Terms, ty: Ty, values: &[i64]) -> Result<I
 // A global that is no array, with its term, or 0.
 fn scalar_slot(terms: &mut Terms, ty: Ty, given: &[u32]) -> Result<TermSlot, NoMemory>
     requires { AllBelow (length terms.old.ops) given.now }
-    ensures { IfOk result (λ x. Gives FitSlot (part.scalar_slot ty given.now) terms.old terms.new x) }
+    ensures { IfOk result (λ x. Gives FitSlot (spec.global_slot ty None given.now) terms.old terms.new x) }
 {
     if given.is_empty() {
         let zero = put(terms, Op::Const(0))?;
@@ -84,7 +84,7 @@ fn array_slot(
     requires there { AllBelow (length terms.old.ops) given }
     requires few { length given < 2 ^ 31 }
     requires short { count ≤ 64 }
-    ensures { IfOk result (λ x. Gives FitSlot (part.array_slot ty count given) terms.old terms.new x) }
+    ensures { IfOk result (λ x. Gives FitSlot (spec.global_slot ty (Some count) given) terms.old terms.new x) }
 {
     let missing = (count as usize).saturating_sub(given.len());
     let more = zeros(alloc, terms, missing)?;
