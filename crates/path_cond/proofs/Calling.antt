@@ -108,17 +108,18 @@ target_unset k t m s is h = subst (FitStore k) (sym is) (target_fits k t m.store
 pub called : (fs : List (List TermSlot)) (ls : List TermSlot) → reverse (fs ++ ls ∷ []) ≡ ls ∷ reverse fs
 called fs ls = reverse-append fs (ls ∷ [])
 
-pub entered : {old mid new : Terms} {vs : Listed} {given : List ℕ} {xs : List TermSlot} (t : Target) (ls : List Declared) (es : List Expr) (m n : Memory) (s : TermStore) → s ≡ spec.unset_target t m.store → FitMemory (length old.ops) (seen m) → Gives FitListed (all_exprs es s) old mid vs → given ≡ vs.terms → Gives FitSlots (spec.entry_slots ls given) mid new xs → n ≡ record { store = record { locals = xs; globals = s.globals }; frames = m.frames ++ s.locals ∷ []; result = None } → Gives FitMove (spec.enter t ls es (seen m)) old new (effect (seen n) vs.conditions)
-entered {old} {mid} {new} {vs} {given} {xs} t ls es m n s is h exprs same slots made =
+pub entered : {old mid new : Terms} {vs : Listed} {given : List ℕ} {xs : List TermSlot} (t : Target) (ls : List Declared) (es : List Expr) (m : Memory) (s : TermStore) (callers locals : List TermSlot) (frames : List (List TermSlot)) → s ≡ spec.unset_target t m.store → FitMemory (length old.ops) (seen m) → Gives FitListed (all_exprs es s) old mid vs → given ≡ vs.terms → Gives FitSlots (spec.entry_slots ls given) mid new xs → callers ≡ s.locals → locals ≡ xs → frames ≡ m.frames ++ callers ∷ [] → Gives FitMove (spec.enter t ls es (seen m)) old new (effect (seen (record { store = record { locals = locals; globals = s.globals }; frames = frames; result = None })) vs.conditions)
+entered {old} {mid} {new} {vs} {given} {xs} t ls es m s callers locals frames is h exprs same slots caller begins framed =
     let o : TermStore = spec.unset_target t m.store in
     let begun : Gives FitListed (all_exprs es o) old mid vs = subst (λ s. Gives FitListed (all_exprs es s) old mid vs) is exprs in
     let entries : Gives FitSlots (spec.entry_slots ls vs.terms) mid new xs = subst (λ ns. Gives FitSlots (spec.entry_slots ls ns) mid new xs) same slots in
     let there : FitStore (length new.ops) o = store_more (length old.ops) (length new.ops) o (omega (arith, exprs.grows, slots.grows)) (target_fits (length old.ops) t m.store h.store) in
     let after : TermMemory = term_memory (record { locals = xs; globals = o.globals }) (o.locals ∷ reverse m.frames) None in
     let fits : FitMove (length new.ops) (effect after vs.conditions) = record { now = record { store = record { locals = slots.fits; globals = there.globals }; frames = (there.locals, frames_more (length old.ops) (length new.ops) (reverse m.frames) (omega (arith, exprs.grows, slots.grows)) h.frames); result = tt }; conditions = below_more (length mid.ops) (length new.ops) vs.conditions slots.grows exprs.fits.conditions } in
-    let whole : Gives FitMove (spec.enter t ls es (seen m)) old new (effect after vs.conditions) = gives_then (λ vs. spec.entry_slots ls vs.terms >>= (λ xs. Done (effect (term_memory (record { locals = xs; globals = o.globals }) (o.locals ∷ reverse m.frames) None) vs.conditions))) begun (gives_done FitMove (λ xs. effect (term_memory (record { locals = xs; globals = o.globals }) (o.locals ∷ reverse m.frames) None) vs.conditions) entries fits) in
-    let looks : after ≡ seen n = (λ j. term_memory (record { locals = xs; globals = (sym is j).globals }) (sym (called m.frames ((sym is j).locals)) j) None) ∙ ap seen (sym made) in
-    subst (λ a. Gives FitMove (spec.enter t ls es (seen m)) old new (effect a vs.conditions)) looks whole
+    let whole : Gives FitMove (spec.enter t ls es (seen m)) old new (effect after vs.conditions) = gives_then (λ (vs : Listed). spec.entry_slots ls vs.terms >>= (λ xs. Done (effect (term_memory (record { locals = xs; globals = o.globals }) (o.locals ∷ reverse m.frames) None) vs.conditions))) begun (gives_done FitMove (λ xs. effect (term_memory (record { locals = xs; globals = o.globals }) (o.locals ∷ reverse m.frames) None) vs.conditions) entries fits) in
+    let turned : reverse frames ≡ o.locals ∷ reverse m.frames = ap reverse framed ∙ (called m.frames callers ∙ (ap (λ ls. ls ∷ reverse m.frames) (caller ∙ ap (λ (s : TermStore). s.locals) is))) in
+    let looks : seen (record { store = record { locals = locals; globals = s.globals }; frames = frames; result = None }) ≡ after = λ j. term_memory (record { locals = begins j; globals = (is j).globals }) (turned j) None in
+    subst (λ a. Gives FitMove (spec.enter t ls es (seen m)) old new (effect a vs.conditions)) (sym looks) whole
 
 -- ---- landings
 
@@ -176,9 +177,15 @@ lost_move {old} {new} {cs} m h g =
     gives_done FitMove (λ cs. effect m cs) g fits
 
 -- no caller waits
-pub landed_nowhere : {old new : Terms} {cs : List ℕ} (t : Target) (u : Option Ty) (m n : Memory) → m.frames ≡ [] → n ≡ m → FitMemory (length old.ops) (seen m) → Gives AllBelow zero_alone old new cs → Gives FitMove (spec.land t u (seen m).frames (seen m)) old new (effect (seen n) cs)
-landed_nowhere {old} {new} {cs} t u m n none same h g =
-    subst (λ n. Gives FitMove (spec.land t u (reverse m.frames) (seen m)) old new (effect (seen n) cs)) (sym same) (subst (λ fs. Gives FitMove (spec.land t u (reverse fs) (seen m)) old new (effect (seen m) cs)) (sym none) (lost_move (seen m) h g))
+pub landed_nowhere : {old new : Terms} {cs : List ℕ} (t : Target) (u : Option Ty) (m : Memory) (frames : List (List TermSlot)) → m.frames ≡ [] → frames ≡ [] → FitMemory (length old.ops) (seen m) → Gives AllBelow zero_alone old new cs → Gives FitMove (spec.land t u (seen m).frames (seen m)) old new (effect (seen (record { store = m.store; frames = frames; result = m.result })) cs)
+landed_nowhere {old} {new} {cs} t u m frames none left h g =
+    let same : m.frames ≡ frames = none ∙ sym left in
+    let stays : Gives FitMove (spec.land t u (reverse m.frames) (seen m)) old new (effect (seen m) cs) = subst (λ (fs : List (List TermSlot)). Gives FitMove (spec.land t u (reverse fs) (seen m)) old new (effect (seen m) cs)) (sym none) (lost_move (seen m) h g) in
+    subst (λ (fs : List (List TermSlot)). Gives FitMove (spec.land t u (reverse m.frames) (seen m)) old new (effect (term_memory m.store (reverse fs) m.result) cs)) same stays
+
+-- by a script that is that of nowhere
+pub lost_by : {old new : Terms} {cs : List ℕ} {s : Script (Effect TermMemory)} (m : TermMemory) → s ≡ nowhere m → FitMemory (length old.ops) m → Gives AllBelow zero_alone old new cs → Gives FitMove s old new (effect m cs)
+lost_by {old} {new} {cs} m is h g = subst (λ s. Gives FitMove s old new (effect m cs)) (sym is) (lost_move m h g)
 
 -- the caller's locals
 pub caller_store : (k : ℕ) (m : Memory) (fs : List (List TermSlot)) (ls : List TermSlot) → m.frames ≡ fs ++ ls ∷ [] → FitMemory k (seen m) → FitStore k (record { locals = ls; globals = m.store.globals })

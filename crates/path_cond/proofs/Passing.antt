@@ -1,6 +1,7 @@
 -- What the edges of a list do.
-use Rattle.std.proofs.Common.{◌≡◌, ◌<◌, ◌≤◌, ◌+◌, ◌^◌, ℕ, zero, suc, Bool, true, false, if◌then◌else◌, List, [], ◌∷◌, ◌++◌, length, drop, get_or, Option, Some, None, refl, sym, ap, ◌∙◌, subst, arith, append_assoc}
+use Rattle.std.proofs.Common.{Bor, ◌≡◌, ◌<◌, ◌≤◌, ◌+◌, ◌^◌, ℕ, zero, suc, Bool, true, false, if◌then◌else◌, List, [], ◌∷◌, ◌++◌, length, drop, get_or, Option, Some, None, refl, sym, ap, ◌∙◌, subst, arith, append_assoc}
 use Rattle.std.specs.Prelude.{slice_get, map, is_some, ◌==◌}
+use Rattle.std.specs.Result.{IfOk, Result}
 use Rattle.std.proofs.lemmas.Bool.{false≢true}
 use Rattle.std.proofs.lemmas.Option.{slice_get_within}
 use Rattle.c_tree.specs.declared.tree.Expr.{Expr}
@@ -34,65 +35,80 @@ use Rattle.node_contents.specs.declared.block.Content as node
 use Rattle.node_contents.specs.declared.block.Content.TheVariants as lent
 use Rattle.node_contents.specs.Contents.{content_of, contents}
 use Rattle.term_steps.specs.Gives.{Gives}
-use Rattle.term_steps.proofs.Runs.{Rest, rest_next, rest_joined, gives_then, gives_done, nothing_given}
-use Rattle.term_effects.specs.Parts.{zero_alone}
+use Rattle.term_steps.proofs.Runs.{Rest, rest_next, rest_joined, gives_then, gives_done}
+use Rattle.term_steps.proofs.ExpressionRuns.{mapped}
 use Rattle.path_cond.specs.declared.memory.Memory.{Memory}
 use Rattle.path_cond.specs.Memories.{seen, FitMove}
-use Rattle.path_cond.proofs.Calling.{memory_more, memory_with, lost_move}
+use Rattle.path_cond.proofs.Calling.{memory_more, memory_with}
 
 -- ---- conditions
 
-pub holding : {old new : Terms} {j : Judged} (e : Expr) (m : TermMemory) (cs : List ℕ) → FitMemory (length old.ops) m → Gives FitJudged (expr e m.store) old new j → cs ≡ j.conditions ++ j.term ∷ [] → Gives FitMove (spec.act (Test None e) True m) old new (effect m cs)
+holding : {old new : Terms} {j : Judged} (e : Expr) (m : TermMemory) (cs : List ℕ) → FitMemory (length old.ops) m → Gives FitJudged (expr e m.store) old new j → cs ≡ j.conditions ++ j.term ∷ [] → Gives FitMove (spec.act (Test None e) True m) old new (effect m cs)
 holding {old} {new} {j} e m cs h g is =
     let fits : FitMove (length new.ops) (effect m (j.conditions ++ j.term ∷ [])) = record { now = memory_more (length old.ops) (length new.ops) m g.grows h; conditions = below_append (length new.ops) j.conditions (j.term ∷ []) g.fits.conditions (g.fits.term, tt) } in
     subst (λ cs. Gives FitMove (spec.act (Test None e) True m) old new (effect m cs)) (sym is) (gives_done FitMove (λ (j : Judged). effect m (j.conditions ++ j.term ∷ [])) g fits)
 
-pub failing : {old mid far new : Terms} {j : Judged} {z c : ℕ} (e : Expr) (m : TermMemory) (cs : List ℕ) → FitMemory (length old.ops) m → Gives FitJudged (expr e m.store) old mid j → Gives Below (put (op.Const 0)) mid far z → Gives Below (put (op.Eq j.term z)) far new c → cs ≡ j.conditions ++ c ∷ [] → Gives FitMove (spec.act (Test None e) False m) old new (effect m cs)
-failing {old} {mid} {far} {new} {j} {z} {c} e m cs h g zero test is =
-    let fits : FitMove (length new.ops) (effect m (j.conditions ++ c ∷ [])) = record { now = memory_more (length old.ops) (length new.ops) m (omega (arith, g.grows, zero.grows, test.grows)) h; conditions = below_append (length new.ops) j.conditions (c ∷ []) (below_more (length mid.ops) (length new.ops) j.conditions (omega (arith, zero.grows, test.grows)) g.fits.conditions) (test.fits, tt) } in
-    subst (λ cs. Gives FitMove (spec.act (Test None e) False m) old new (effect m cs)) (sym is) (gives_then (λ (j : Judged). put (op.Const 0) >>= (λ z. put (op.Eq j.term z) >>= (λ c. Done (effect m (j.conditions ++ c ∷ []))))) g (gives_then (λ z. put (op.Eq j.term z) >>= (λ c. Done (effect m (j.conditions ++ c ∷ [])))) zero (gives_done FitMove (λ c. effect m (j.conditions ++ c ∷ [])) test fits)))
+failing : {old mid far new : Terms} {j : Judged} {z c : ℕ} (e : Expr) (m : TermMemory) (cs : List ℕ) → FitMemory (length old.ops) m → Gives FitJudged (expr e m.store) old mid j → Gives Below (put (op.Const 0)) mid far z → Gives Below (put (op.Eq j.term z)) far new c → cs ≡ j.conditions ++ c ∷ [] → Gives FitMove (spec.act (Test None e) False m) old new (effect m cs)
+failing {old} {mid} {far} {new} {j} {z} {c} e m cs h g nought test is =
+    let fits : FitMove (length new.ops) (effect m (j.conditions ++ c ∷ [])) = record { now = memory_more (length old.ops) (length new.ops) m (omega (arith, g.grows, nought.grows, test.grows)) h; conditions = below_append (length new.ops) j.conditions (c ∷ []) (below_more (length mid.ops) (length new.ops) j.conditions (omega (arith, nought.grows, test.grows)) g.fits.conditions) (test.fits, tt) } in
+    subst (λ cs. Gives FitMove (spec.act (Test None e) False m) old new (effect m cs)) (sym is) (gives_then (λ (j : Judged). put (op.Const 0) >>= (λ z. put (op.Eq j.term z) >>= (λ c. Done (effect m (j.conditions ++ c ∷ []))))) g (gives_then (λ z. put (op.Eq j.term z) >>= (λ c. Done (effect m (j.conditions ++ c ∷ [])))) nought (gives_done FitMove (λ c. effect m (j.conditions ++ c ∷ [])) test fits)))
+
+-- the same, of what is lent
+pub held_true : {old new : Terms} {j : Judged} (c : node.Content) (e : Bor Expr) (m : TermMemory) (cs : List ℕ) → c ≡ lent.Test e → FitMemory (length old.ops) m → Gives FitJudged (expr e.now m.store) old new j → cs ≡ j.conditions ++ j.term ∷ [] → Gives FitMove (spec.act (content_of c) True m) old new (effect m cs)
+held_true {old} {new} c e m cs is h g end =
+    subst (λ c. Gives FitMove (spec.act (content_of c) True m) old new (effect m cs)) (sym is) (holding e.now m cs h g end)
+
+pub held_false : {old mid far new : Terms} {j : Judged} {z t : ℕ} (c : node.Content) (e : Bor Expr) (m : TermMemory) (cs : List ℕ) → c ≡ lent.Test e → FitMemory (length old.ops) m → Gives FitJudged (expr e.now m.store) old mid j → Gives Below (put (op.Const 0)) mid far z → Gives Below (put (op.Eq j.term z)) far new t → cs ≡ j.conditions ++ t ∷ [] → Gives FitMove (spec.act (content_of c) False m) old new (effect m cs)
+held_false {old} {mid} {far} {new} c e m cs is h g nought test end =
+    subst (λ c. Gives FitMove (spec.act (content_of c) False m) old new (effect m cs)) (sym is) (failing e.now m cs h g nought test end)
 
 -- what is no condition has no such end
-pub no_test_true : (c : node.Content) (m : TermMemory) → ((e : Expr) → content_of c ≡ Test None e → ⊥) → spec.act (content_of c) True m ≡ nowhere m
+gives_by_true : (e : Option Expr) (m : TermMemory) → spec.act (Give e) True m ≡ nowhere m
+gives_by_true None m = refl
+gives_by_true (Some e) m = refl
+
+gives_by_false : (e : Option Expr) (m : TermMemory) → spec.act (Give e) False m ≡ nowhere m
+gives_by_false None m = refl
+gives_by_false (Some e) m = refl
+
+pub no_test_true : (c : node.Content) (m : TermMemory) → ((e : Bor Expr) → c ≡ lent.Test e → ⊥) → spec.act (content_of c) True m ≡ nowhere m
 no_test_true lent.Entry m h = refl
 no_test_true lent.Exit m h = refl
 no_test_true (lent.Simple ss) m h = refl
-no_test_true (lent.Test e) m h = absurd (h e.now refl)
+no_test_true (lent.Test e) m h = absurd (h e refl)
 no_test_true lent.Jump m h = refl
-no_test_true (lent.Give e) m h = refl
+no_test_true (lent.Give e) m h = gives_by_true e.now m
 no_test_true (lent.Enter t ls es) m h = refl
 no_test_true lent.Missing m h = refl
 no_test_true (lent.Land t ty b) m h = refl
 
-pub no_test_false : (c : node.Content) (m : TermMemory) → ((e : Expr) → content_of c ≡ Test None e → ⊥) → spec.act (content_of c) False m ≡ nowhere m
+pub no_test_false : (c : node.Content) (m : TermMemory) → ((e : Bor Expr) → c ≡ lent.Test e → ⊥) → spec.act (content_of c) False m ≡ nowhere m
 no_test_false lent.Entry m h = refl
 no_test_false lent.Exit m h = refl
 no_test_false (lent.Simple ss) m h = refl
-no_test_false (lent.Test e) m h = absurd (h e.now refl)
+no_test_false (lent.Test e) m h = absurd (h e refl)
 no_test_false lent.Jump m h = refl
-no_test_false (lent.Give e) m h = refl
+no_test_false (lent.Give e) m h = gives_by_false e.now m
 no_test_false (lent.Enter t ls es) m h = refl
 no_test_false lent.Missing m h = refl
 no_test_false (lent.Land t ty b) m h = refl
 
 -- ---- nodes that are left by their one end
 
-pub stayed : (old : Terms) (m : TermMemory) → FitMemory (length old.ops) m → Gives FitMove (Done (effect m [])) old old (effect m [])
-stayed old m h = nothing_given FitMove old (effect m []) (record { now = h; conditions = tt })
-
-pub simple_run : {old new : Terms} {s : TermStore} {cs : List ℕ} (ss : List Stmt) (m : TermMemory) → FitMemory (length old.ops) m → Gives FitEffect (all_simple ss m.store) old new (effect s cs) → Gives FitMove (spec.act (Simple ss) Next m) old new (effect (term_memory s m.frames m.result) cs)
-simple_run {old} {new} {s} {cs} ss m h g =
+pub simple_run : {old new : Terms} {s : TermStore} {cs : List ℕ} (c : node.Content) (ss : Bor (List Stmt)) (m : TermMemory) → c ≡ lent.Simple ss → FitMemory (length old.ops) m → Gives FitEffect (all_simple ss.now m.store) old new (effect s cs) → Gives FitMove (spec.act (content_of c) Next m) old new (effect (term_memory s m.frames m.result) cs)
+simple_run {old} {new} {s} {cs} c ss m is h g =
     let fits : FitMove (length new.ops) (effect (term_memory s m.frames m.result) cs) = record { now = memory_with (length old.ops) (length new.ops) m s g.grows h g.fits.now; conditions = g.fits.conditions } in
-    gives_done FitMove (λ (e : Effect TermStore). spec.with_store m e) g fits
+    subst (λ c. Gives FitMove (spec.act (content_of c) Next m) old new (effect (term_memory s m.frames m.result) cs)) (sym is) (gives_done FitMove (λ (e : Effect TermStore). spec.with_store m e) g fits)
 
-pub gave_none : (old : Terms) (m : TermMemory) → FitMemory (length old.ops) m → Gives FitMove (spec.act (Give None) Next m) old old (effect (term_memory m.store m.frames None) [])
-gave_none old m h = nothing_given FitMove old (effect (term_memory m.store m.frames None) []) (record { now = record { store = h.store; frames = h.frames; result = tt }; conditions = tt })
-
-pub gave : {old new : Terms} {j : Judged} (e : Expr) (m : TermMemory) → FitMemory (length old.ops) m → Gives FitJudged (expr e m.store) old new j → Gives FitMove (spec.act (Give (Some e)) Next m) old new (effect (term_memory m.store m.frames (Some (record { ty = j.ty; term = j.term }))) j.conditions)
+gave : {old new : Terms} {j : Judged} (e : Expr) (m : TermMemory) → FitMemory (length old.ops) m → Gives FitJudged (expr e m.store) old new j → Gives FitMove (spec.act (Give (Some e)) Next m) old new (effect (term_memory m.store m.frames (Some (record { ty = j.ty; term = j.term }))) j.conditions)
 gave {old} {new} {j} e m h g =
     let more = memory_more (length old.ops) (length new.ops) m g.grows h in
     let fits : FitMove (length new.ops) (effect (term_memory m.store m.frames (Some (record { ty = j.ty; term = j.term }))) j.conditions) = record { now = record { store = more.store; frames = more.frames; result = g.fits.term }; conditions = g.fits.conditions } in
     gives_done FitMove (λ (j : Judged). effect (term_memory m.store m.frames (Some (record { ty = j.ty; term = j.term }))) j.conditions) g fits
+
+pub gave_some : {old new : Terms} {j : Judged} (o : Option Expr) (e : Expr) (m : TermMemory) → o ≡ Some e → FitMemory (length old.ops) m → Gives FitJudged (expr e m.store) old new j → Gives FitMove (spec.act (Give o) Next m) old new (effect (term_memory m.store m.frames (Some (record { ty = j.ty; term = j.term }))) j.conditions)
+gave_some {old} {new} {j} o e m is h g =
+    subst (λ o. Gives FitMove (spec.act (Give o) Next m) old new (effect (term_memory m.store m.frames (Some (record { ty = j.ty; term = j.term }))) j.conditions)) (sym is) (gave e m h g)
 
 -- ---- edges
 
@@ -142,10 +158,14 @@ small_at p n c w h =
 pub source_in : (p : Program) (j : ℕ) (e : Edge) → WellFormed p → slice_get (edges (graph p)) j ≡ Some e → e.from < length (graph p)
 source_in p j e w is = (edges_join p w j e is).from
 
-pub passed : (g : List Site) (j : ℕ) (e : Edge) (c : Content) (m : TermMemory) → slice_get (edges g) j ≡ Some e → slice_get (contents g) e.from ≡ Some c → spec.pass g (slice_get (edges g) j) m ≡ spec.act c e.way m
+passed : (g : List Site) (j : ℕ) (e : Edge) (c : Content) (m : TermMemory) → slice_get (edges g) j ≡ Some e → slice_get (contents g) e.from ≡ Some c → spec.pass g (slice_get (edges g) j) m ≡ spec.act c e.way m
 passed g j e c m is does =
     let r = site_with g e.from c does in
     ap (λ o. spec.pass g o m) is ∙ (ap (λ o. spec.act_at o e.way m) r.is ∙ (sym (acts_plain r.site.content e.way m) ∙ ap (λ c. spec.act c e.way m) r.does))
+
+pub passed_by : {E : Type 0} {old new : Terms} (g : List Site) (j : ℕ) (e : Edge) (c : Content) (m : TermMemory) (n : List ℕ → Effect TermMemory) → slice_get (edges g) j ≡ Some e → slice_get (contents g) e.from ≡ Some c → (r : Result (List ℕ) E) → IfOk r (λ cs. Gives FitMove (spec.act c e.way m) old new (n cs)) → IfOk r (λ cs. Gives FitMove (spec.pass g (slice_get (edges g) j) m) old new (n cs))
+passed_by {old = old} {new = new} g j e c m n is does r h =
+    mapped (λ cs. Gives FitMove (spec.pass g (slice_get (edges g) j) m) old new (n cs)) r h (λ cs k. subst (λ s. Gives FitMove s old new (n cs)) (sym (passed g j e c m is does)) k)
 
 -- ---- lists
 
@@ -167,7 +187,7 @@ edge_from es m (j ∷ q) h (suc k) lt =
 pub edge_at : (es : List Edge) (list : List ℕ) (k : ℕ) → follows es list ≡ true → k < length list → get_or list k 0 < length es
 edge_at es list k on lt = edge_from es 0 list on k lt
 
-pub walked_on : {all : Script (List ℕ)} {start now new : Terms} {m n : TermMemory} {more : List ℕ} (g : List Site) (q : List ℕ) (i j : ℕ) (cs ds : List ℕ) → drop i q ≡ j ∷ drop (i + 1) q → Rest all (spec.walk g (drop i q) m) (λ r. cs ++ r) start now → Gives FitMove (spec.pass g (slice_get (edges g) j) m) now new (effect n more) → ds ≡ cs ++ more → Rest all (spec.walk g (drop (i + 1) q) n) (λ r. ds ++ r) start new
-walked_on {all} {start} {now} {new} {m} {n} {more} g q i j cs ds at h k e =
+pub walked_on : {all : Script (List ℕ)} {start now new : Terms} {more : List ℕ} (m n : TermMemory) (g : List Site) (q : List ℕ) (i j : ℕ) (cs ds : List ℕ) → drop i q ≡ j ∷ drop (i + 1) q → Rest all (spec.walk g (drop i q) m) (λ r. cs ++ r) start now → Gives FitMove (spec.pass g (slice_get (edges g) j) m) now new (effect n more) → ds ≡ cs ++ more → Rest all (spec.walk g (drop (i + 1) q) n) (λ r. ds ++ r) start new
+walked_on {all} {start} {now} {new} {more} m n g q i j cs ds at h k e =
     let begun : Rest all (spec.walk g (j ∷ drop (i + 1) q) m) (λ r. cs ++ r) start now = subst (λ d. Rest all (spec.walk g d m) (λ r. cs ++ r) start now) at h in
     rest_joined (λ r. ds ++ r) (λ r. sym (append_assoc cs more r) ∙ ap (λ l. l ++ r) (sym e)) (rest_next (λ (a : Effect TermMemory). spec.walk g (drop (i + 1) q) a.now) (λ (a : Effect TermMemory) r. a.conditions ++ r) begun k)

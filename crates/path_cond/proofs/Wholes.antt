@@ -54,7 +54,9 @@ terms_are {old} {new} {cs} p q t inputs none h made =
     let done : cs ≡ outcome (conditions_of p q) [] = h.done ∙ ap (outcome (conditions_of p q)) none in
     made ∙ (λ i. record { terms = record { inputs = ins i; ops = ops i }; conditions = done i })
 
-pub terms_of : {old mid far new : Terms} {m : TermMemory} {cs more all : List ℕ} {keeps : Bool} (p : Program) (q : List ℕ) (t : PathCond) → follows (edges (graph p)) q ≡ true → old.inputs ≡ map is_signed (input_types p) → old.ops ≡ [] → Gives FitMemory (spec.start p) old mid m → Gives AllBelow (spec.walk (graph p) q m) mid far cs → keeps ≡ keeps_all (graph p) q → Gives AllBelow (spec.broken keeps) far new more → all ≡ cs ++ more → t ≡ record { terms = new; conditions = all } → t ≡ TermsOf p q
-terms_of {old} {mid} {far} {new} {m} {cs} {more} {all} {keeps} p q t on inputs none first second kept third joined made =
+pub terms_of : {old mid far new : Terms} {m : TermMemory} {cs more all : List ℕ} {keeps : Bool} (p r : Program) (q : List ℕ) (t : PathCond) → r ≡ p → follows (edges (graph p)) q ≡ true → old.inputs ≡ map is_signed (input_types r) → old.ops ≡ [] → Gives FitMemory (spec.start r) old mid m → Gives AllBelow (spec.walk (graph p) q m) mid far cs → keeps ≡ keeps_all (graph p) q → Gives AllBelow (spec.broken keeps) far new more → all ≡ cs ++ more → t ≡ record { terms = new; conditions = all } → t ≡ TermsOf p q
+terms_of {old} {mid} {far} {new} {m} {cs} {more} {all} {keeps} p r q t same on inputs none first second kept third joined made =
+    let begun : Gives FitMemory (spec.start p) old mid m = subst (λ r. Gives FitMemory (spec.start r) old mid m) same first in
+    let ins : old.inputs ≡ map is_signed (input_types p) = inputs ∙ ap (λ r. map is_signed (input_types r)) same in
     let last : Gives AllBelow (spec.broken (keeps_each (loops (graph p)) q)) far new more = subst (λ b. Gives AllBelow (spec.broken b) far new more) (kept ∙ kept_by_all (graph p) q on) third in
-    terms_are p q t inputs none (all_given p q first second last) (made ∙ ap (λ cs. record { terms = new; conditions = cs }) joined)
+    terms_are p q t ins none (all_given p q begun second last) (made ∙ ap (λ cs. record { terms = new; conditions = cs }) joined)

@@ -37,13 +37,13 @@ fn inputs(alloc: Global, terms: &mut Terms, first: u32, count: u32) -> Result<It
 }
 
 // The word of a number of a type.
-fn word_in(ty: Ty, value: i64) -> u32
-    requires { is_of ty value ≡ true }
-    ensures { result ≡ spec.word_in ty value }
+fn word_in(ty: Ty, value: &i64) -> u32
+    requires { is_of ty value.now ≡ true }
+    ensures { result ≡ spec.word_in ty value.now }
 {
     match ty {
-        Ty::Int => (value as i32).cast_unsigned(),
-        Ty::Unsigned => value as u32,
+        Ty::Int => (*value as i32).cast_unsigned(),
+        Ty::Unsigned => *value as u32,
     }
 }
 
@@ -54,7 +54,7 @@ fn numbers(alloc: Global, terms: &mut Terms, ty: Ty, values: &[i64]) -> Result<I
 {
     let mut words = Items::new(alloc);
     for value in values {
-        let word = put(terms, Op::Const(word_in(ty, *value)))?;
+        let word = put(terms, Op::Const(word_in(ty, value)))?;
         words.push(word)?;
     }
     Ok(words)

@@ -1,5 +1,3 @@
-use Rattle.std.proofs.Common.{List, [], ◌∷◌, ◌++◌, None, ap, ◌∙◌}
-use Rattle.cond_laws.specs.declared.store.TermSlot.{TermSlot}
 use Rattle.path_cond.proofs.Calling.{target_unset, entered}
 use Rattle.path_cond.proofs.calls.enter.Goals as goal
 
@@ -8,8 +6,4 @@ all_exprs-requires c = target_unset _ c.args.target c.args.memory.now _ c.unset_
 
 pub returns : goal.returns
 returns c =
-    let fs = c.args.memory.now.frames in
-    let s = c.unset_target.new.store in
-    let frames = c.in_ok-push.ensures.ok ∙ ap (λ (ls : List TermSlot). fs ++ ls ∷ []) c.replace-callers.ensures.value in
-    let made = λ i. record { store = record { locals = c.replace-callers.ensures.after i; globals = s.globals }; frames = frames i; result = None } in
-    entered c.args.target c.args.locals.now c.args.args.now c.args.memory.now _ s c.unset_target.ensures c.requires.there c.in_ok-given.ensures c.as_slice.ensures c.in_ok-slots.ensures made
+    entered c.args.target c.args.locals.now c.args.args.now c.args.memory.now c.unset_target.new.store c.replace-callers.result c.replace-callers.new.dest c.push.new.self c.unset_target.ensures c.requires.there c.in_ok-given.ensures c.as_slice.ensures c.in_ok-slots.ensures c.replace-callers.ensures.value c.replace-callers.ensures.after c.in_ok-push.ensures.ok
