@@ -60,6 +60,10 @@ inputs_over first many k le =
 pub pushed : {all : Script (List ℕ)} {s : Script ℕ} {start now new : Terms} {y : ℕ} (more : Script (List ℕ)) (xs ys : List ℕ) → Rest all (s >>= (λ y. more >>= (λ r. Done (y ∷ r)))) (λ r. xs ++ r) start now → Gives Below s now new y → ys ≡ xs ++ y ∷ [] → Rest all more (λ r. ys ++ r) start new
 pushed {y = y} more xs ys h k e = rest_joined (λ r. ys ++ r) (λ r. moved xs y r ∙ ap (λ l. l ++ r) (sym e)) (rest_next (λ y. more) (λ y r. y ∷ r) h k)
 
+-- the same of a constant
+pub word_pushed : {all : Script (List ℕ)} {start now new : Terms} {y : ℕ} (more : Script (List ℕ)) (w n : ℕ) (xs ys : List ℕ) → w ≡ n → Rest all (put (op.Const n) >>= (λ y. more >>= (λ r. Done (y ∷ r)))) (λ r. xs ++ r) start now → Gives Below (put (op.Const w)) now new y → ys ≡ xs ++ y ∷ [] → Rest all more (λ r. ys ++ r) start new
+word_pushed {now = now} {new = new} {y = y} more w n xs ys is h k e = pushed more xs ys h (subst (λ n. Gives Below (put (op.Const n)) now new y) is k) e
+
 -- nothing is left of a list
 pub all_pushed : {A : Type 0} {all rest : Script (List A)} {start now : Terms} (P : ℕ → List A → Type 0) (xs : List A) → Rest all rest (λ r. xs ++ r) start now → rest ≡ Done [] → P (length now.ops) xs → Gives P all start now xs
 all_pushed {all = all} {start = start} {now = now} P xs h e p =

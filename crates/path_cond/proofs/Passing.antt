@@ -1,7 +1,7 @@
 -- What the edges of a list do.
-use Rattle.std.proofs.Common.{Bor, ◌≡◌, ◌<◌, ◌≤◌, ◌+◌, ◌^◌, ℕ, zero, suc, Bool, true, false, if◌then◌else◌, List, [], ◌∷◌, ◌++◌, length, drop, get_or, Option, Some, None, refl, sym, ap, ◌∙◌, subst, arith, append_assoc}
+use Rattle.std.proofs.Common.{Bor, Result, ◌≡◌, ◌<◌, ◌≤◌, ◌+◌, ◌^◌, ℕ, zero, suc, Bool, true, false, if◌then◌else◌, List, [], ◌∷◌, ◌++◌, length, drop, get_or, Option, Some, None, refl, sym, ap, ◌∙◌, subst, arith, append_assoc}
 use Rattle.std.specs.Prelude.{slice_get, map, is_some, ◌==◌}
-use Rattle.std.specs.Result.{IfOk, Result}
+use Rattle.std.specs.Result.{IfOk}
 use Rattle.std.proofs.lemmas.Bool.{false≢true}
 use Rattle.std.proofs.lemmas.Option.{slice_get_within}
 use Rattle.c_tree.specs.declared.tree.Expr.{Expr}
@@ -163,8 +163,8 @@ passed g j e c m is does =
     let r = site_with g e.from c does in
     ap (λ o. spec.pass g o m) is ∙ (ap (λ o. spec.act_at o e.way m) r.is ∙ (sym (acts_plain r.site.content e.way m) ∙ ap (λ c. spec.act c e.way m) r.does))
 
-pub passed_by : {E : Type 0} {old new : Terms} (g : List Site) (j : ℕ) (e : Edge) (c : Content) (m : TermMemory) (n : List ℕ → Effect TermMemory) → slice_get (edges g) j ≡ Some e → slice_get (contents g) e.from ≡ Some c → (r : Result (List ℕ) E) → IfOk r (λ cs. Gives FitMove (spec.act c e.way m) old new (n cs)) → IfOk r (λ cs. Gives FitMove (spec.pass g (slice_get (edges g) j) m) old new (n cs))
-passed_by {old = old} {new = new} g j e c m n is does r h =
+pub passed_by : {E : Type 0} (old new : Terms) (g : List Site) (j : ℕ) (e : Edge) (c : Content) (m : TermMemory) (n : List ℕ → Effect TermMemory) → slice_get (edges g) j ≡ Some e → slice_get (contents g) e.from ≡ Some c → (r : Result (List ℕ) E) → IfOk r (λ cs. Gives FitMove (spec.act c e.way m) old new (n cs)) → IfOk r (λ cs. Gives FitMove (spec.pass g (slice_get (edges g) j) m) old new (n cs))
+passed_by old new g j e c m n is does r h =
     mapped (λ cs. Gives FitMove (spec.pass g (slice_get (edges g) j) m) old new (n cs)) r h (λ cs k. subst (λ s. Gives FitMove s old new (n cs)) (sym (passed g j e c m is does)) k)
 
 -- ---- lists

@@ -8,19 +8,19 @@ use Rattle.path_cond.proofs.Wholes.{terms_of}
 use Rattle.path_cond.proofs.path.condition.Goals as goal
 
 pub returns-clause-terms : goal.returns-clause-terms
-returns-clause-terms c = terms_of c.args.plan.now.program _ c.args.list.now _ c.program.ensures.value c.requires.contiguous c.in_ok-declare_inputs.ensures.inputs (c.declare_inputs.ensures.ops ∙ c.new-terms.ensures.ops) c.in_ok-memory.ensures c.in_ok-conditions.ensures c.keeps.ensures c.in_ok-more.ensures c.in_ok-append.ensures refl
+returns-clause-terms c = terms_of c.args.plan.now.program _ c.args.list.now _ c.program-program.ensures.value c.requires.contiguous c.in_ok-declare_inputs.ensures.inputs (c.declare_inputs.ensures.ops ∙ c.new-terms.ensures.ops) c.in_ok-memory.ensures c.in_ok-conditions.ensures c.keeps.ensures c.in_ok-more.ensures c.in_ok-append.ensures refl
 
 pub returns-clause-drives : goal.returns-clause-drives
 returns-clause-drives c =
     let p = c.args.plan.now.program in
     let q = c.args.list.now in
-    subst (λ (t : PathCond). Cond p q t.terms t.conditions) (sym (returns-clause-terms c)) (whole.terms_tell p q c.program.ensures.formed c.requires.contiguous)
+    subst (λ (t : PathCond). Cond p q t.terms t.conditions) (sym (returns-clause-terms c)) (whole.terms_tell p q c.program-program.ensures.formed c.requires.contiguous)
 
 pub returns-clause-fits : goal.returns-clause-fits
 returns-clause-fits c =
     let p = c.args.plan.now.program in
     let q = c.args.list.now in
-    subst FitTerms (sym (returns-clause-terms c)) (whole.terms_fit p q c.program.ensures.formed)
+    subst FitTerms (sym (returns-clause-terms c)) (whole.terms_fit p q c.program-program.ensures.formed)
 
 pub returns-clause-inputs : goal.returns-clause-inputs
 returns-clause-inputs c i =
