@@ -1,5 +1,5 @@
 -- An input drives a list exactly where the words of all its conditions are nonzero.
-use Rattle.std.proofs.Common.{◌≡◌, ◌<◌, ◌↔◌, ◌+◌, ℕ, Bool, true, false, List, [], ◌∷◌, ◌++◌, length, IsTrue, ℤ, refl, sym, ap, ◌∙◌, subst, arith}
+use Rattle.std.proofs.Common.{◌≡◌, ◌↔◌, ◌+◌, ℕ, true, false, List, [], ◌∷◌, ◌++◌, length, IsTrue, ℤ, sym, ap, ◌∙◌, subst, arith}
 use Rattle.std.specs.Prelude.{slice_index}
 use Rattle.std.proofs.lemmas.Bool.{false≢true}
 use Rattle.std.proofs.lemmas.List.{length-append}
@@ -34,9 +34,10 @@ pub driven_exactly : (p : Program) (q : List ℕ) (i : Input) (terms : Terms) (c
     → fits p i ≡ true → Cond p q terms conditions → ws ≡ words terms.ops i.values
     → IsTrue (all_hold (slice_index ws) conditions) ↔ IsDrivenBy p q i
 unfolding tv
-driven_exactly p q i terms conditions ws fit cond is =
-    (λ holds. record { fitting = fit; driving = cond.drives i fit (subst (λ l. all_hold (slice_index l) conditions ≡ true) is holds) },
-     λ driven. subst (λ l. all_hold (slice_index l) conditions ≡ true) (sym is) (cond.nonzero i fit driven.driving))
+driven_exactly p q i terms conditions ws fit cond is = (
+  λ holds. record { fitting = fit; driving = cond.drives i fit (subst (λ l. all_hold (slice_index l) conditions ≡ true) is holds) },
+  λ driven. subst (λ l. all_hold (slice_index l) conditions ≡ true) (sym is) (cond.nonzero i fit driven.driving),
+)
 
 -- an input that does not fit drives nothing
 pub unfit_drives_nothing : (p : Program) (q : List ℕ) (i : Input) → fits p i ≡ false → IsTrue false ↔ IsDrivenBy p q i

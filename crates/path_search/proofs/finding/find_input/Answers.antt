@@ -5,8 +5,8 @@ pub returns-in-Ok-Sat : goal.returns-in-Ok-Sat
 returns-in-Ok-Sat c =
     let blasted = c.in_ok-blasted in
     let sat = c.in-Ok-Sat in
-    let said = c.in_ok-input_said-in-Ok-Sat in
-    sat_drives c.args.plan.now.program c.args.list.now blasted.blasted c.cnf.result.now c.args.limit sat.field-0 sat.assignment said.field-0
+    let said = c.in_ok-input-in-Ok-Sat in
+    sat_drives c.args.plan.now.program c.args.list.now blasted.blasted c.cnf.result.now c.args.limit sat.field-0 sat.assignment said.input
     blasted.ensures.says blasted.ensures.inputs c.cnf.ensures sat.ensures.verdict sat.field-0-is said.ensures
 
 pub returns-in-Ok-Unsat : goal.returns-in-Ok-Unsat
