@@ -135,7 +135,7 @@ fn seek_part(scope: Scope, part: &Option<Boxed<Stmt>>, left: u32) -> Result<u32,
 
 // The blocks of a statement that is not simple.
 #[cycle(seek)]
-#[tactic(auto, using(node_contents::proofs::BlockLayers::block_layers))]
+#[tactic(auto, using(node_contents::proofs::BlockLayers::block_layers, crate::proofs::Seeking::seeking))]
 fn seek(scope: Scope, stmt: &Stmt, left: u32) -> Result<u32, Found>
     requires { is_simple stmt.now ≡ false }
     ensures { result ≡ sought (block_part scope.entry.locals.now scope.entry.globals.now scope.entry.func) (blocks_of_stmt stmt.now) left }
