@@ -5,9 +5,9 @@ ghost use Rattle.c_tree.specs.Values as values;
 ghost use Rattle.c_tree.specs.Stores as stores;
 ghost use Rattle.c_tree.specs.Expressions as spec;
 
-use crate::memory::{Memory, slot_ty};
 use c_semantics::{bin_ty, common, convert, is_true, of_word, operated, un_ty, unary};
 use c_tree::{Expr, Slot, Ty, Value};
+use c_ways::{Memory, slot_ty};
 
 /// The number of a scalar.
 pub(crate) fn number_in(slot: Option<&Slot>) -> Option<Value>

@@ -3,10 +3,10 @@
 ghost use Rattle.std.specs.Prelude.{◌≡◌, option_copied, IfOk};
 ghost use Rattle.c_tree.specs.Statements as spec;
 ghost use Rattle.c_tree.specs.Runs as runs;
-ghost use Rattle.c_steps.specs.Slots as words;
+ghost use Rattle.c_ways.specs.Slots as words;
 
+use crate::arrays::padded;
 use crate::memory::Memory;
-use crate::simple_statements::padded;
 use c_semantics::convert;
 use c_tree::{Local, NoMemory, Slot, Target, Ty, Value};
 use std::alloc::Global;

@@ -1,7 +1,7 @@
 //! The ways in which statements end (C11 6.8.6).
 
 ghost use Rattle.std.specs.Prelude.{◌≡◌};
-ghost use Rattle.c_steps.specs.Ways as ways;
+ghost use Rattle.c_ways.specs.Ways as ways;
 
 use c_semantics::convert;
 use c_tree::{Ty, Value, Way};

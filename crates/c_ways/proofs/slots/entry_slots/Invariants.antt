@@ -1,6 +1,6 @@
 use Rattle.std.proofs.Common.{◌≡◌, ◌++◌, drop}
 use Rattle.c_tree.specs.Runs.{entry_slots}
-use Rattle.c_steps.proofs.slots.entry_slots.Given as goal
+use Rattle.c_ways.proofs.slots.entry_slots.Given as goal
 
 abbrev pub invariant-loop-i : goal.invariant-loop-i
 invariant-loop-i l =

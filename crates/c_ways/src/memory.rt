@@ -3,7 +3,7 @@
 ghost use Rattle.std.specs.Prelude.{◌≡◌, option_copied, slice_get, slice_set};
 ghost use Rattle.c_tree.specs.declared.value.Store.{Store};
 ghost use Rattle.c_tree.specs.Stores as spec;
-ghost use Rattle.c_steps.specs.Changed.{changed, changed_list, with_element};
+ghost use Rattle.c_ways.specs.Changed.{changed, changed_list, with_element};
 
 use c_semantics::{convert, ty_of};
 use c_tree::{Slot, Ty, Value, Var};
@@ -25,7 +25,7 @@ impl Model for Memory {
 }
 
 /// The type of a slot, which is `int` where there is none.
-pub(crate) fn slot_ty(slot: Option<&Slot>) -> Ty
+pub fn slot_ty(slot: Option<&Slot>) -> Ty
     ensures { result ≡ spec.slot_ty (option_copied slot.entry) }
 {
     match slot {
