@@ -1,5 +1,5 @@
-pub mod Declaring
-pub mod Beginning
-pub mod Calling
-pub mod Passing
-pub mod Wholes
+pub mod DeclaredInputs
+pub mod StartRuns
+pub mod CallRuns
+pub mod EdgeRuns
+pub mod ListRuns

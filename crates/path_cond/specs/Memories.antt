@@ -7,8 +7,8 @@ use Rattle.cond_laws.specs.TermPaths.{TermMemory, term_memory}
 use Rattle.path_cond.specs.declared.memory.Memory.{Memory}
 
 -- the memory of the definitions
-abbrev pub seen : Memory → TermMemory
-seen m = term_memory m.store (reverse m.frames) m.result
+abbrev pub memory_of : Memory → TermMemory
+memory_of m = term_memory m.store (reverse m.frames) m.result
 
 -- what an edge leaves, all of it there
 pub record FitMove (k : ℕ) (e : Effect TermMemory) : Type 0 where

@@ -21,8 +21,8 @@ abbrev pub global_terms : Global → ℕ → Script (List ℕ)
 global_terms g k = if g.outer then inputs k (width g.length) else numbers g.ty g.values
 
 -- the number of the input behind those of a global
-abbrev pub behind : Global → ℕ → ℕ
-behind g k = if g.outer then k + width g.length else k
+abbrev pub next_input : Global → ℕ → ℕ
+next_input g k = if g.outer then k + width g.length else k
 
 -- the argument of a parameter is there
 abbrev pub BelowIfGiven : ℕ → Option ℕ → Type 0

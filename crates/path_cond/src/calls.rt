@@ -6,7 +6,7 @@ ghost use Rattle.cond_laws.specs.Fits.{FitEffect, FitMemory, FitReturned, FitSlo
 ghost use Rattle.cond_laws.specs.Sizes.{AreSmallLocals, HasSmallLength};
 ghost use Rattle.cond_laws.specs.TermPaths as spec;
 ghost use Rattle.cond_laws.specs.TermStatements.{effect};
-ghost use Rattle.path_cond.specs.Memories.{seen, FitMove};
+ghost use Rattle.path_cond.specs.Memories.{memory_of, FitMove};
 ghost use Rattle.path_cond.specs.Parts as part;
 ghost use Rattle.term_steps.specs.Gives.{Gives};
 
@@ -43,7 +43,8 @@ fn entry_slot(
 ) -> Result<TermSlot, NoMemory>
     requires small { HasSmallLength local.now.length }
     requires there { part.BelowIfGiven (length terms.old.ops) (option_copied given) }
-    ensures { IfOk result (λ x. Gives FitSlot (part.entry_slot local.now (option_copied given.entry)) terms.old terms.new x) }
+    ensures { IfOk result (λ x. Gives FitSlot (part.entry_slot local.now (option_copied given.entry))
+        terms.old terms.new x) }
 {
     match given {
         Some(term) => Ok(TermSlot::Number(local.ty, *term)),
@@ -91,8 +92,9 @@ pub(crate) fn enter(
     memory: &mut Memory,
 ) -> Result<Items<u32>, NoMemory>
     requires small { AreSmallLocals locals.now }
-    requires there { FitMemory (length terms.old.ops) (seen memory.old) }
-    ensures { IfOk result (λ cs. Gives FitMove (spec.enter target locals.now args.now (seen memory.old)) terms.old terms.new (effect (seen memory.new) cs)) }
+    requires there { FitMemory (length terms.old.ops) (memory_of memory.old) }
+    ensures { IfOk result (λ cs. Gives FitMove (spec.enter target locals.now args.now (memory_of memory.old))
+        terms.old terms.new (effect (memory_of memory.new) cs)) }
 {
     unset_target(target, &mut memory.store);
     let given = all_exprs(alloc, terms, args, &memory.store)?;
@@ -126,7 +128,8 @@ fn variable_of(target: Target) -> Option<Var>
     }
 }
 
-// Where the result goes. To use that of a function whose end was reached without `return` is undefined (6.9.1 paragraph 12).
+// Where the result goes. To use that of a function whose end was reached without `return` is undefined (6.9.1
+// paragraph 12).
 fn give(
     alloc: Global,
     terms: &mut Terms,
@@ -136,7 +139,8 @@ fn give(
 ) -> Result<Items<u32>, NoMemory>
     requires value { FitReturned (length terms.old.ops) value }
     requires there { FitStore (length terms.old.ops) store.old }
-    ensures { IfOk result (λ cs. Gives FitEffect (spec.give target value store.old) terms.old terms.new (effect store.new cs)) }
+    ensures { IfOk result (λ cs. Gives FitEffect (spec.give target value store.old)
+        terms.old terms.new (effect store.new cs)) }
 {
     let Some(var) = variable_of(target) else {
         return Ok(Items::new(alloc));
@@ -156,8 +160,10 @@ pub(crate) fn land(
     ty: Option<Ty>,
     memory: &mut Memory,
 ) -> Result<Items<u32>, NoMemory>
-    requires { FitMemory (length terms.old.ops) (seen memory.old) }
-    ensures { IfOk result (λ cs. Gives FitMove (spec.land target ty (seen memory.old).frames (seen memory.old)) terms.old terms.new (effect (seen memory.new) cs)) }
+    requires { FitMemory (length terms.old.ops) (memory_of memory.old) }
+    ensures { IfOk result (λ cs. Gives FitMove
+        (spec.land target ty (memory_of memory.old).frames (memory_of memory.old))
+        terms.old terms.new (effect (memory_of memory.new) cs)) }
 {
     let Some(locals) = memory.frames.pop() else {
         return nowhere(alloc, terms);

@@ -11,7 +11,7 @@ ghost use Rattle.cond_laws.specs.Sizes.{IsSmallContent};
 ghost use Rattle.cond_laws.specs.TermPaths as spec;
 ghost use Rattle.cond_laws.specs.TermStatements.{effect};
 ghost use Rattle.node_contents.specs.Contents.{content_of};
-ghost use Rattle.path_cond.specs.Memories.{seen, FitMove};
+ghost use Rattle.path_cond.specs.Memories.{memory_of, FitMove};
 ghost use Rattle.term_steps.specs.Gives.{Gives};
 
 use crate::calls::{enter, land};
@@ -33,8 +33,9 @@ fn holds(
     content: Content,
     memory: &Memory,
 ) -> Result<Items<u32>, NoMemory>
-    requires { FitMemory (length terms.old.ops) (seen memory.now) }
-    ensures { IfOk result (λ cs. Gives FitMove (spec.act (content_of content.entry) way.True (seen memory.now)) terms.old terms.new (effect (seen memory.now) cs)) }
+    requires { FitMemory (length terms.old.ops) (memory_of memory.now) }
+    ensures { IfOk result (λ cs. Gives FitMove (spec.act (content_of content.entry) way.True (memory_of memory.now))
+        terms.old terms.new (effect (memory_of memory.now) cs)) }
 {
     let Content::Test(condition) = content else {
         return nowhere(alloc, terms);
@@ -52,8 +53,9 @@ fn fails(
     content: Content,
     memory: &Memory,
 ) -> Result<Items<u32>, NoMemory>
-    requires { FitMemory (length terms.old.ops) (seen memory.now) }
-    ensures { IfOk result (λ cs. Gives FitMove (spec.act (content_of content.entry) way.False (seen memory.now)) terms.old terms.new (effect (seen memory.now) cs)) }
+    requires { FitMemory (length terms.old.ops) (memory_of memory.now) }
+    ensures { IfOk result (λ cs. Gives FitMove (spec.act (content_of content.entry) way.False (memory_of memory.now))
+        terms.old terms.new (effect (memory_of memory.now) cs)) }
 {
     let Content::Test(condition) = content else {
         return nowhere(alloc, terms);
@@ -73,8 +75,9 @@ fn give_back(
     value: &Option<Expr>,
     memory: &mut Memory,
 ) -> Result<Items<u32>, NoMemory>
-    requires { FitMemory (length terms.old.ops) (seen memory.old) }
-    ensures { IfOk result (λ cs. Gives FitMove (spec.act (Give value.now) way.Next (seen memory.old)) terms.old terms.new (effect (seen memory.new) cs)) }
+    requires { FitMemory (length terms.old.ops) (memory_of memory.old) }
+    ensures { IfOk result (λ cs. Gives FitMove (spec.act (Give value.now) way.Next (memory_of memory.old))
+        terms.old terms.new (effect (memory_of memory.new) cs)) }
 {
     let Some(value) = value else {
         memory.result = None;
@@ -96,8 +99,9 @@ fn run(
     memory: &mut Memory,
 ) -> Result<Items<u32>, NoMemory>
     requires small { IsSmallContent (content_of content) }
-    requires there { FitMemory (length terms.old.ops) (seen memory.old) }
-    ensures { IfOk result (λ cs. Gives FitMove (spec.act (content_of content.entry) way.Next (seen memory.old)) terms.old terms.new (effect (seen memory.new) cs)) }
+    requires there { FitMemory (length terms.old.ops) (memory_of memory.old) }
+    ensures { IfOk result (λ cs. Gives FitMove (spec.act (content_of content.entry) way.Next (memory_of memory.old))
+        terms.old terms.new (effect (memory_of memory.new) cs)) }
 {
     match content {
         Content::Entry => Ok(Items::new(alloc)),
@@ -121,8 +125,9 @@ fn act(
     memory: &mut Memory,
 ) -> Result<Items<u32>, NoMemory>
     requires small { IsSmallContent (content_of content) }
-    requires there { FitMemory (length terms.old.ops) (seen memory.old) }
-    ensures { IfOk result (λ cs. Gives FitMove (spec.act (content_of content.entry) way (seen memory.old)) terms.old terms.new (effect (seen memory.new) cs)) }
+    requires there { FitMemory (length terms.old.ops) (memory_of memory.old) }
+    ensures { IfOk result (λ cs. Gives FitMove (spec.act (content_of content.entry) way (memory_of memory.old))
+        terms.old terms.new (effect (memory_of memory.new) cs)) }
 {
     match way {
         Way::Next => run(alloc, terms, content, memory),
@@ -142,8 +147,10 @@ fn pass(
 ) -> Result<Items<u32>, NoMemory>
     requires same { contents.now ≡ plan.now }
     requires edge { edge < length (edges (graph plan.now.program)) }
-    requires there { FitMemory (length terms.old.ops) (seen memory.old) }
-    ensures { IfOk result (λ cs. Gives FitMove (spec.pass (graph plan.now.program) (slice_get (edges (graph plan.now.program)) edge) (seen memory.old)) terms.old terms.new (effect (seen memory.new) cs)) }
+    requires there { FitMemory (length terms.old.ops) (memory_of memory.old) }
+    ensures { IfOk result (λ cs. Gives FitMove
+        (spec.pass (graph plan.now.program) (slice_get (edges (graph plan.now.program)) edge) (memory_of memory.old))
+        terms.old terms.new (effect (memory_of memory.new) cs)) }
 {
     // The program is well-formed.
     plan.program();
@@ -162,8 +169,9 @@ pub(crate) fn walk(
 ) -> Result<Items<u32>, NoMemory>
     requires same { contents.now ≡ plan.now }
     requires contiguous { follows (edges (graph plan.now.program)) list.now ≡ true }
-    requires there { FitMemory (length terms.old.ops) (seen memory.old) }
-    ensures { IfOk result (λ cs. Gives AllBelow (spec.walk (graph plan.now.program) list.now (seen memory.old)) terms.old terms.new cs) }
+    requires there { FitMemory (length terms.old.ops) (memory_of memory.old) }
+    ensures { IfOk result (λ cs. Gives AllBelow (spec.walk (graph plan.now.program) list.now (memory_of memory.old))
+        terms.old terms.new cs) }
 {
     let mut conditions = Items::new(alloc);
     for edge in list {

@@ -56,7 +56,8 @@ fn declare_params(terms: &mut Terms, params: &[Local]) -> Result<(), NoMemory>
 // The inputs of a global, if it is an extern one.
 fn declare_global(terms: &mut Terms, global: &Global) -> Result<(), NoMemory>
     requires { length terms.old.inputs + length (outer_types (global.now ∷ [])) ≤ 64 }
-    ensures inputs { OnOk result (terms.new.inputs ≡ terms.old.inputs ++ map is_signed (outer_types (global.now ∷ []))) }
+    ensures inputs { OnOk result
+        (terms.new.inputs ≡ terms.old.inputs ++ map is_signed (outer_types (global.now ∷ []))) }
     ensures ops { terms.new.ops ≡ terms.old.ops }
 {
     if global.outer {

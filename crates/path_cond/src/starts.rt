@@ -7,7 +7,7 @@ ghost use Rattle.c_tree.specs.WellFormed.{AreNumbersOf, IsLength, WellFormed, We
 ghost use Rattle.cond_laws.specs.Conditions.{AllBelow};
 ghost use Rattle.cond_laws.specs.Fits.{AsMany, FitMemory, FitSlot, FitSlots};
 ghost use Rattle.cond_laws.specs.TermPaths as spec;
-ghost use Rattle.path_cond.specs.Memories.{seen};
+ghost use Rattle.path_cond.specs.Memories.{memory_of};
 ghost use Rattle.path_cond.specs.Parts as part;
 ghost use Rattle.term_steps.specs.Gives.{Gives};
 
@@ -50,7 +50,8 @@ fn word_in(ty: Ty, value: &i64) -> u32
 // The numbers of an initialiser.
 fn numbers(alloc: Global, terms: &mut Terms, ty: Ty, values: &[i64]) -> Result<Items<u32>, NoMemory>
     requires { AreNumbersOf ty values.now }
-    ensures { IfOk result (λ ns. Gives (AsMany (length values.now)) (spec.numbers ty values.now) terms.old terms.new ns) }
+    ensures { IfOk result (λ ns. Gives (AsMany (length values.now)) (spec.numbers ty values.now)
+        terms.old terms.new ns) }
 {
     let mut words = Items::new(alloc);
     for value in values {
@@ -102,7 +103,8 @@ fn global_slot(
     requires array { IsLength global.now.length }
     requires there { AllBelow (length terms.old.ops) given }
     requires few { length given < 2 ^ 31 }
-    ensures { IfOk result (λ x. Gives FitSlot (spec.global_slot global.now.ty global.now.length given) terms.old terms.new x) }
+    ensures { IfOk result (λ x. Gives FitSlot (spec.global_slot global.now.ty global.now.length given)
+        terms.old terms.new x) }
 {
     match global.length {
         None => scalar_slot(terms, global.ty, given.as_slice()),
@@ -118,8 +120,8 @@ fn global_terms(
     first: u32,
 ) -> Result<Items<u32>, NoMemory>
     requires formed { WellFormedGlobal global.now }
-    requires declared { part.behind global.now first ≤ length terms.old.inputs }
-    requires few { part.behind global.now first ≤ 64 }
+    requires declared { part.next_input global.now first ≤ length terms.old.inputs }
+    requires few { part.next_input global.now first ≤ 64 }
     ensures terms { IfOk result (λ ns. Gives AllBelow (part.global_terms global.now first) terms.old terms.new ns) }
     ensures few { IfOk result (λ ns. length ns < 2 ^ 31) }
 {
@@ -147,15 +149,15 @@ fn global_slots(
     for global in globals {
         let given = global_terms(alloc, terms, global, next)?;
         slots.push(global_slot(alloc, terms, global, given)?)?;
-        next = behind(global, next);
+        next = next_input(global, next);
     }
     Ok(slots)
 }
 
 // The number of the input behind those of a global.
-fn behind(global: &Outside, first: u32) -> u32
-    requires { part.behind global.now first ≤ 64 }
-    ensures { result ≡ part.behind global.now first }
+fn next_input(global: &Outside, first: u32) -> u32
+    requires { part.next_input global.now first ≤ 64 }
+    ensures { result ≡ part.next_input global.now first }
 {
     if global.outer {
         first + width(global.length)
@@ -169,7 +171,7 @@ fn behind(global: &Outside, first: u32) -> u32
 pub(crate) fn start(alloc: Global, terms: &mut Terms, program: &Program) -> Result<Memory, NoMemory>
     requires formed { WellFormed program.now }
     requires declared { length terms.old.inputs ≡ length (input_types program.now) }
-    ensures { IfOk result (λ m. Gives FitMemory (spec.start program.now) terms.old terms.new (seen m)) }
+    ensures { IfOk result (λ m. Gives FitMemory (spec.start program.now) terms.old terms.new (memory_of m)) }
 {
     let entry = &program.funcs.as_slice()[program.entry as usize];
     let given = inputs(alloc, terms, 0, entry.params)?;

@@ -1,4 +1,4 @@
-use Rattle.path_cond.proofs.Calling.{target_unset, entered}
+use Rattle.path_cond.proofs.CallRuns.{target_unset, entered}
 use Rattle.path_cond.proofs.calls.enter.Goals as goal
 
 pub all_exprs-requires : goal.all_exprs-requires

@@ -1,8 +1,8 @@
 use Rattle.std.proofs.Common.{length, option_copied, sym, subst}
 use Rattle.term_steps.proofs.Growing.{next_item}
 use Rattle.path_cond.specs.Parts as part
-use Rattle.path_cond.proofs.Beginning.{slots_pushed}
-use Rattle.path_cond.proofs.Calling.{given_at, given_more, entry_next, small_next}
+use Rattle.path_cond.proofs.StartRuns.{slots_pushed}
+use Rattle.path_cond.proofs.CallRuns.{given_at, given_more, entry_next, small_next}
 use Rattle.path_cond.proofs.calls.entry_slots.Goals as goal
 
 pub entry_slot-requires-clause-there : goal.entry_slot-requires-clause-there

@@ -1,4 +1,4 @@
-use Rattle.path_cond.proofs.Calling.{fresh_is}
+use Rattle.path_cond.proofs.CallRuns.{fresh_is}
 use Rattle.path_cond.proofs.calls.fresh.Goals as goal
 
 pub returns-in_ok-elements-in-Some : goal.returns-in_ok-elements-in-Some

@@ -1,6 +1,6 @@
 use Rattle.std.proofs.Common.{sym, ◌∙◌}
 use Rattle.term_steps.proofs.ExpressionRuns.{mapped}
-use Rattle.path_cond.proofs.Calling.{given_missing, given_value}
+use Rattle.path_cond.proofs.CallRuns.{given_missing, given_value}
 use Rattle.path_cond.proofs.calls.give.Goals as goal
 
 pub returns-in_default-value : goal.returns-in_default-value

@@ -1,6 +1,6 @@
 use Rattle.std.proofs.Common.{refl}
 use Rattle.term_steps.proofs.ExpressionRuns.{mapped}
-use Rattle.path_cond.proofs.Calling.{landed_nowhere, landed}
+use Rattle.path_cond.proofs.CallRuns.{landed_nowhere, landed}
 use Rattle.path_cond.proofs.calls.land.Goals as goal
 
 pub returns-in_default : goal.returns-in_default

@@ -1,4 +1,4 @@
-use Rattle.path_cond.proofs.Passing.{gave_some}
+use Rattle.path_cond.proofs.EdgeRuns.{gave_some}
 use Rattle.path_cond.proofs.edges.give_back.Goals as goal
 
 pub returns : goal.returns

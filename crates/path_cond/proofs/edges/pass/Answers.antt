@@ -3,8 +3,8 @@ use Rattle.std.specs.Prelude.{slice_get}
 use Rattle.flow_laws.specs.Graphs.{graph}
 use Rattle.flow_graph.specs.Plans.{Planned}
 use Rattle.node_contents.specs.Contents.{content_of, contents}
-use Rattle.path_cond.specs.Memories.{seen}
-use Rattle.path_cond.proofs.Passing.{source_in, small_at, passed_by}
+use Rattle.path_cond.specs.Memories.{memory_of}
+use Rattle.path_cond.proofs.EdgeRuns.{source_in, small_at, passed_by}
 use Rattle.path_cond.proofs.edges.pass.Goals as goal
 
 pub of-requires : goal.of-requires
@@ -22,4 +22,4 @@ pub returns : goal.returns
 returns c =
     let e = c.edge-edge.result.now in
     let does = subst (λ (y : Planned). slice_get (contents (graph y.program)) e.from ≡ Some (content_of c.of.result)) c.requires.same c.of.ensures in
-    passed_by _ _ (graph c.args.plan.now.program) c.args.edge e (content_of c.of.result) (seen c.args.memory.now) _ c.edge-edge.ensures does c.act.result c.act.ensures
+    passed_by _ _ (graph c.args.plan.now.program) c.args.edge e (content_of c.of.result) (memory_of c.args.memory.now) _ c.edge-edge.ensures does c.act.result c.act.ensures

@@ -1,7 +1,7 @@
 use Rattle.std.proofs.lemmas.Result.{on_ok_weaker}
 use Rattle.std.proofs.Common.{◌++◌, replicate, ap, ◌∙◌}
 use Rattle.cond_laws.specs.TermPaths.{is_signed}
-use Rattle.path_cond.proofs.Declaring.{outer_inputs}
+use Rattle.path_cond.proofs.DeclaredInputs.{outer_inputs}
 use Rattle.path_cond.proofs.inputs.declare_global.Goals as goal
 
 pub returns-then-global-clause-inputs : goal.returns-then-global-clause-inputs

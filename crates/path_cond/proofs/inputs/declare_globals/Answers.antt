@@ -1,5 +1,5 @@
 use Rattle.term_steps.proofs.Growing.{next_item}
-use Rattle.path_cond.proofs.Declaring.{globals_room}
+use Rattle.path_cond.proofs.DeclaredInputs.{globals_room}
 use Rattle.path_cond.proofs.inputs.declare_globals.Goals as goal
 
 pub declare_global-requires : goal.declare_global-requires

@@ -1,7 +1,7 @@
 use Rattle.std.proofs.Common.{ap, ◌∙◌}
 use Rattle.std.proofs.lemmas.Result.{on_ok_weaker}
 use Rattle.c_tree.specs.Programs.{Program}
-use Rattle.path_cond.proofs.Declaring.{read_func, params_taken, params_first, globals_then, all_declared}
+use Rattle.path_cond.proofs.DeclaredInputs.{read_func, params_taken, params_first, globals_then, all_declared}
 use Rattle.path_cond.proofs.inputs.declare_inputs.Goals as goal
 
 pub slice_bounds-declare_params-end : goal.slice_bounds-declare_params-end

@@ -4,7 +4,7 @@ use Rattle.bv_term.specs.Stores.{fits_store}
 use Rattle.cond_laws.specs.declared.condition.PathCond.{PathCond}
 use Rattle.cond_laws.specs.Conditions.{Cond, FitTerms}
 use Rattle.cond_laws.proofs.Whole as whole
-use Rattle.path_cond.proofs.Wholes.{terms_of}
+use Rattle.path_cond.proofs.ListRuns.{terms_of}
 use Rattle.path_cond.proofs.path.condition.Goals as goal
 
 pub returns-clause-terms : goal.returns-clause-terms

@@ -1,5 +1,5 @@
 use Rattle.std.proofs.Common.{◌-◌, ap, ◌∙◌}
-use Rattle.path_cond.proofs.Beginning.{array_given}
+use Rattle.path_cond.proofs.StartRuns.{array_given}
 use Rattle.path_cond.proofs.starts.array_slot.Goals as goal
 
 pub returns : goal.returns

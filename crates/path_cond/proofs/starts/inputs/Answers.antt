@@ -3,7 +3,7 @@ use Rattle.std.proofs.lemmas.List.{length_push}
 use Rattle.cond_laws.specs.TermPaths as spec
 use Rattle.term_steps.proofs.Runs.{Rest}
 use Rattle.term_steps.proofs.Growing.{below_pushed}
-use Rattle.path_cond.proofs.Beginning.{inputs_next, pushed}
+use Rattle.path_cond.proofs.StartRuns.{inputs_next, pushed}
 use Rattle.path_cond.proofs.starts.inputs.Goals as goal
 
 pub loop-k-preserved : goal.loop-k-preserved

@@ -3,7 +3,7 @@ use Rattle.std.proofs.lemmas.List.{drop_more, length_push}
 use Rattle.cond_laws.specs.TermPaths as spec
 use Rattle.term_steps.proofs.Runs.{Rest}
 use Rattle.term_steps.proofs.Growing.{below_pushed}
-use Rattle.path_cond.proofs.Beginning.{number_at, word_pushed}
+use Rattle.path_cond.proofs.StartRuns.{number_at, word_pushed}
 use Rattle.path_cond.proofs.starts.numbers.Goals as goal
 
 pub word_in-requires : goal.word_in-requires

@@ -38,8 +38,8 @@ use Rattle.term_steps.specs.Gives.{Gives}
 use Rattle.term_steps.proofs.Runs.{Rest, rest_next, rest_joined, gives_then, gives_done}
 use Rattle.term_steps.proofs.ExpressionRuns.{mapped}
 use Rattle.path_cond.specs.declared.memory.Memory.{Memory}
-use Rattle.path_cond.specs.Memories.{seen, FitMove}
-use Rattle.path_cond.proofs.Calling.{memory_more, memory_with}
+use Rattle.path_cond.specs.Memories.{memory_of, FitMove}
+use Rattle.path_cond.proofs.CallRuns.{memory_more, memory_with}
 
 -- ---- conditions
 

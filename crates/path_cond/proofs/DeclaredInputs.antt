@@ -15,24 +15,7 @@ use Rattle.cond_laws.specs.TermPaths.{is_signed, width}
 
 -- ---- so many of a type
 
-pub each_more : (xs ys zs : List Bool) (n : ℕ) (b : Bool) → ys ≡ xs ++ replicate n b → zs ≡ ys ++ b ∷ [] → zs ≡ xs ++ replicate (n + 1) b
-each_more xs ys zs n b h e =
-    e ∙ (ap (λ l. l ++ b ∷ []) h ∙ (append_assoc xs (replicate n b) (b ∷ []) ∙ ap (λ l. xs ++ l) (replicate_more n b)))
-
-pub each_room : (xs ys : List Bool) (n many : ℕ) (b : Bool) → ys ≡ xs ++ replicate n b → n < many → length xs + many ≤ 64 → length ys < 64
-each_room xs ys n many b h lt room =
-    omega (arith, ap length h, length-append xs (replicate n b), length-replicate n b)
-
 -- ---- parameters
-
-pub params_more : {A : Type 0} (f : A → Bool) (ps : List A) (i : ℕ) (p : A) (xs ys zs : List Bool) → i < length ps → p ≡ get_or ps i p → ys ≡ xs ++ map f (take i ps) → zs ≡ ys ++ f p ∷ [] → zs ≡ xs ++ map f (take (i + 1) ps)
-params_more f ps i p xs ys zs lt is h e =
-    let last : take (i + 1) ps ≡ take i ps ++ p ∷ [] = take_more ps i p lt ∙ ap (λ q. take i ps ++ q ∷ []) (sym is) in
-    e ∙ (ap (λ l. l ++ f p ∷ []) h ∙ (append_assoc xs (map f (take i ps)) (f p ∷ []) ∙ ap (λ l. xs ++ l) (sym (ap (map f) last ∙ map-append f (take i ps) (p ∷ [])))))
-
-pub params_room : {A : Type 0} (f : A → Bool) (ps : List A) (i : ℕ) (xs ys : List Bool) → i < length ps → ys ≡ xs ++ map f (take i ps) → length xs + length ps ≤ 64 → length ys < 64
-params_room f ps i xs ys lt h room =
-    omega (arith, ap length h, length-append xs (map f (take i ps)), length-map (take i ps) f, length-take i ps)
 
 -- ---- globals
 
@@ -42,13 +25,6 @@ global_types g gs = by_outer g.outer
     by_outer : (b : Bool) → (if b then types_of g.ty g.length ++ outer_types gs else outer_types gs) ≡ (if b then types_of g.ty g.length ++ [] else []) ++ outer_types gs
     by_outer true = ap (λ l. l ++ outer_types gs) (sym (append-nil (types_of g.ty g.length)))
     by_outer false = refl
-
-pub globals_more : (gs : List Outside) (i : ℕ) (g : Outside) (all ys zs : List Bool) → drop i gs ≡ g ∷ drop (i + 1) gs → ys ++ map is_signed (outer_types (drop i gs)) ≡ all → zs ≡ ys ++ map is_signed (outer_types (g ∷ [])) → zs ++ map is_signed (outer_types (drop (i + 1) gs)) ≡ all
-globals_more gs i g all ys zs at h e =
-    let rest = drop (i + 1) gs in
-    let one = map is_signed (outer_types (g ∷ [])) in
-    let here : map is_signed (outer_types (drop i gs)) ≡ one ++ map is_signed (outer_types rest) = ap (λ l. map is_signed (outer_types l)) at ∙ (ap (map is_signed) (global_types g rest) ∙ map-append is_signed (outer_types (g ∷ [])) (outer_types rest)) in
-    ap (λ l. l ++ map is_signed (outer_types rest)) e ∙ (append_assoc ys one (map is_signed (outer_types rest)) ∙ (ap (λ l. ys ++ l) (sym here) ∙ h))
 
 pub globals_room : (gs : List Outside) (i : ℕ) (g : Outside) (xs ys : List Bool) → drop i gs ≡ g ∷ drop (i + 1) gs → ys ++ map is_signed (outer_types (drop i gs)) ≡ xs ++ map is_signed (outer_types gs) → length xs + length (outer_types gs) ≤ 64 → length ys + length (outer_types (g ∷ [])) ≤ 64
 globals_room gs i g xs ys at h room =
@@ -67,14 +43,6 @@ own_types t (Some n) = ap (map is_signed) (append-nil (replicate n t)) ∙ map_c
 pub outer_inputs : (g : Outside) (xs ys : List Bool) → g.outer ≡ true → ys ≡ xs ++ replicate (width g.length) (is_signed g.ty) → ys ≡ xs ++ map is_signed (outer_types (g ∷ []))
 outer_inputs g xs ys outer e =
     e ∙ ap (λ l. xs ++ l) (sym (ap (λ b. map is_signed (if b then types_of g.ty g.length ++ [] else [])) outer ∙ own_types g.ty g.length))
-
-pub inner_inputs : (g : Outside) (xs : List Bool) → g.outer ≡ false → xs ≡ xs ++ map is_signed (outer_types (g ∷ []))
-inner_inputs g xs outer =
-    sym (append-nil xs) ∙ ap (λ l. xs ++ l) (sym (ap (λ b. map is_signed (if b then types_of g.ty g.length ++ [] else [])) outer))
-
-pub outer_room : (g : Outside) → g.outer ≡ true → length (outer_types (g ∷ [])) ≡ width g.length
-outer_room g outer =
-    sym (length-map (outer_types (g ∷ [])) is_signed) ∙ (ap length (ap (λ b. map is_signed (if b then types_of g.ty g.length ++ [] else [])) outer ∙ own_types g.ty g.length) ∙ length-replicate (width g.length) (is_signed g.ty))
 
 -- ---- all inputs
 

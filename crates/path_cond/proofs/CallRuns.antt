@@ -30,7 +30,7 @@ use Rattle.term_steps.specs.Gives.{Gives}
 use Rattle.term_steps.proofs.Runs.{Rest, rest_next, rest_joined, gives_then, gives_done, nothing_given, moved}
 use Rattle.term_effects.specs.Parts.{zero_alone}
 use Rattle.path_cond.specs.declared.memory.Memory.{Memory}
-use Rattle.path_cond.specs.Memories.{seen, FitMove}
+use Rattle.path_cond.specs.Memories.{memory_of, FitMove}
 use Rattle.path_cond.specs.Parts as part
 
 -- ---- terms that are there stay there
@@ -91,9 +91,6 @@ entry_next {all} {start} {now} {new} {x} ls l i vs o xs ys at is h g e =
 pub small_next : (ls : List Declared) (i : ℕ) (l : Declared) → drop i ls ≡ l ∷ drop (i + 1) ls → AreSmallLocals (drop i ls) → HasSmallLength l.length × AreSmallLocals (drop (i + 1) ls)
 small_next ls i l at h = subst AreSmallLocals at h
 
-pub entries_over : (ls : List Declared) (vs : List ℕ) → ls ≡ [] → spec.entry_slots ls vs ≡ Done []
-entries_over ls vs e = ap (λ l. spec.entry_slots l vs) e
-
 -- ---- calls
 
 target_fits : (k : ℕ) (t : Target) (s : TermStore) → FitStore k s → FitStore k (spec.unset_target t s)
@@ -101,14 +98,14 @@ target_fits k Nothing s h = h
 target_fits k (Assign x) s h = h
 target_fits k (Declare l) s h = unset_fits k l s h
 
-pub target_unset : (k : ℕ) (t : Target) (m : Memory) (s : TermStore) → s ≡ spec.unset_target t m.store → FitMemory k (seen m) → FitStore k s
+pub target_unset : (k : ℕ) (t : Target) (m : Memory) (s : TermStore) → s ≡ spec.unset_target t m.store → FitMemory k (memory_of m) → FitStore k s
 target_unset k t m s is h = subst (FitStore k) (sym is) (target_fits k t m.store h.store)
 
 -- a memory whose function was called from one with these locals
 pub called : (fs : List (List TermSlot)) (ls : List TermSlot) → reverse (fs ++ ls ∷ []) ≡ ls ∷ reverse fs
 called fs ls = reverse-append fs (ls ∷ [])
 
-pub entered : {old mid new : Terms} {vs : Listed} {given : List ℕ} {xs : List TermSlot} (t : Target) (ls : List Declared) (es : List Expr) (m : Memory) (s : TermStore) (callers locals : List TermSlot) (frames : List (List TermSlot)) → s ≡ spec.unset_target t m.store → FitMemory (length old.ops) (seen m) → Gives FitListed (all_exprs es s) old mid vs → given ≡ vs.terms → Gives FitSlots (spec.entry_slots ls given) mid new xs → callers ≡ s.locals → locals ≡ xs → frames ≡ m.frames ++ callers ∷ [] → Gives FitMove (spec.enter t ls es (seen m)) old new (effect (seen (record { store = record { locals = locals; globals = s.globals }; frames = frames; result = None })) vs.conditions)
+pub entered : {old mid new : Terms} {vs : Listed} {given : List ℕ} {xs : List TermSlot} (t : Target) (ls : List Declared) (es : List Expr) (m : Memory) (s : TermStore) (callers locals : List TermSlot) (frames : List (List TermSlot)) → s ≡ spec.unset_target t m.store → FitMemory (length old.ops) (memory_of m) → Gives FitListed (all_exprs es s) old mid vs → given ≡ vs.terms → Gives FitSlots (spec.entry_slots ls given) mid new xs → callers ≡ s.locals → locals ≡ xs → frames ≡ m.frames ++ callers ∷ [] → Gives FitMove (spec.enter t ls es (memory_of m)) old new (effect (memory_of (record { store = record { locals = locals; globals = s.globals }; frames = frames; result = None })) vs.conditions)
 entered {old} {mid} {new} {vs} {given} {xs} t ls es m s callers locals frames is h exprs same slots caller begins framed =
     let o : TermStore = spec.unset_target t m.store in
     let begun : Gives FitListed (all_exprs es o) old mid vs = subst (λ s. Gives FitListed (all_exprs es s) old mid vs) is exprs in
@@ -116,25 +113,12 @@ entered {old} {mid} {new} {vs} {given} {xs} t ls es m s callers locals frames is
     let there : FitStore (length new.ops) o = store_more (length old.ops) (length new.ops) o (omega (arith, exprs.grows, slots.grows)) (target_fits (length old.ops) t m.store h.store) in
     let after : TermMemory = term_memory (record { locals = xs; globals = o.globals }) (o.locals ∷ reverse m.frames) None in
     let fits : FitMove (length new.ops) (effect after vs.conditions) = record { now = record { store = record { locals = slots.fits; globals = there.globals }; frames = (there.locals, frames_more (length old.ops) (length new.ops) (reverse m.frames) (omega (arith, exprs.grows, slots.grows)) h.frames); result = tt }; conditions = below_more (length mid.ops) (length new.ops) vs.conditions slots.grows exprs.fits.conditions } in
-    let whole : Gives FitMove (spec.enter t ls es (seen m)) old new (effect after vs.conditions) = gives_then (λ (vs : Listed). spec.entry_slots ls vs.terms >>= (λ xs. Done (effect (term_memory (record { locals = xs; globals = o.globals }) (o.locals ∷ reverse m.frames) None) vs.conditions))) begun (gives_done FitMove (λ xs. effect (term_memory (record { locals = xs; globals = o.globals }) (o.locals ∷ reverse m.frames) None) vs.conditions) entries fits) in
+    let whole : Gives FitMove (spec.enter t ls es (memory_of m)) old new (effect after vs.conditions) = gives_then (λ (vs : Listed). spec.entry_slots ls vs.terms >>= (λ xs. Done (effect (term_memory (record { locals = xs; globals = o.globals }) (o.locals ∷ reverse m.frames) None) vs.conditions))) begun (gives_done FitMove (λ xs. effect (term_memory (record { locals = xs; globals = o.globals }) (o.locals ∷ reverse m.frames) None) vs.conditions) entries fits) in
     let turned : reverse frames ≡ o.locals ∷ reverse m.frames = ap reverse framed ∙ (called m.frames callers ∙ (ap (λ ls. ls ∷ reverse m.frames) (caller ∙ ap (λ (s : TermStore). s.locals) is))) in
-    let looks : seen (record { store = record { locals = locals; globals = s.globals }; frames = frames; result = None }) ≡ after = λ j. term_memory (record { locals = begins j; globals = (is j).globals }) (turned j) None in
-    subst (λ a. Gives FitMove (spec.enter t ls es (seen m)) old new (effect a vs.conditions)) (sym looks) whole
+    let looks : memory_of (record { store = record { locals = locals; globals = s.globals }; frames = frames; result = None }) ≡ after = λ j. term_memory (record { locals = begins j; globals = (is j).globals }) (turned j) None in
+    subst (λ a. Gives FitMove (spec.enter t ls es (memory_of m)) old new (effect a vs.conditions)) (sym looks) whole
 
 -- ---- landings
-
-pub result_fits : (k : ℕ) (u : Option Ty) (r o : Option Returned) → o ≡ spec.result_of u r → FitReturned k r → FitReturned k o
-result_fits k u r o is h = subst (FitReturned k) (sym is) (by_type u r h)
-  where
-    by_type : (u : Option Ty) (r : Option Returned) → FitReturned k r → FitReturned k (spec.result_of u r)
-    by_type (Some t) (Some r) h = h
-    by_type (Some t) None h = tt
-    by_type None r h = tt
-
-gives_nothing : (t : Target) (r : Option Returned) (s : TermStore) → part.variable_of t ≡ None → spec.give t r s ≡ Done (effect s [])
-gives_nothing Nothing r s e = refl
-gives_nothing (Assign x) r s e = absurd (cc e)
-gives_nothing (Declare l) r s e = absurd (cc e)
 
 gives_missing : (t : Target) (x : Var) (s : TermStore) → part.variable_of t ≡ Some x → spec.give t None s ≡ nowhere s
 gives_missing Nothing x s e = absurd (cc e)
@@ -156,10 +140,6 @@ lost {old} {new} {cs} s h g =
     let fits : FitEffect (length new.ops) (effect s cs) = record { now = store_more (length old.ops) (length new.ops) s g.grows h; conditions = g.fits } in
     gives_done FitEffect (λ cs. effect s cs) g fits
 
-pub given_nothing : (old : Terms) (t : Target) (r : Option Returned) (s : TermStore) → part.variable_of t ≡ None → FitStore (length old.ops) s → Gives FitEffect (spec.give t r s) old old (effect s [])
-given_nothing old t r s e h =
-    subst (λ p. Gives FitEffect p old old (effect s [])) (sym (gives_nothing t r s e)) (nothing_given FitEffect old (effect s []) (record { now = h; conditions = tt }))
-
 pub given_missing : {old new : Terms} {cs : List ℕ} (t : Target) (x : Var) (r : Option Returned) (s : TermStore) → part.variable_of t ≡ Some x → r ≡ None → FitStore (length old.ops) s → Gives AllBelow zero_alone old new cs → Gives FitEffect (spec.give t r s) old new (effect s cs)
 given_missing {old} {new} {cs} t x r s e none h g =
     subst (λ p. Gives FitEffect p old new (effect s cs)) (sym (ap (λ r. spec.give t r s) none ∙ gives_missing t x s e)) (lost s h g)
@@ -177,28 +157,22 @@ lost_move {old} {new} {cs} m h g =
     gives_done FitMove (λ cs. effect m cs) g fits
 
 -- no caller waits
-pub landed_nowhere : {old new : Terms} {cs : List ℕ} (t : Target) (u : Option Ty) (m : Memory) (frames : List (List TermSlot)) → m.frames ≡ [] → frames ≡ [] → FitMemory (length old.ops) (seen m) → Gives AllBelow zero_alone old new cs → Gives FitMove (spec.land t u (seen m).frames (seen m)) old new (effect (seen (record { store = m.store; frames = frames; result = m.result })) cs)
+pub landed_nowhere : {old new : Terms} {cs : List ℕ} (t : Target) (u : Option Ty) (m : Memory) (frames : List (List TermSlot)) → m.frames ≡ [] → frames ≡ [] → FitMemory (length old.ops) (memory_of m) → Gives AllBelow zero_alone old new cs → Gives FitMove (spec.land t u (memory_of m).frames (memory_of m)) old new (effect (memory_of (record { store = m.store; frames = frames; result = m.result })) cs)
 landed_nowhere {old} {new} {cs} t u m frames none left h g =
     let same : m.frames ≡ frames = none ∙ sym left in
-    let stays : Gives FitMove (spec.land t u (reverse m.frames) (seen m)) old new (effect (seen m) cs) = subst (λ (fs : List (List TermSlot)). Gives FitMove (spec.land t u (reverse fs) (seen m)) old new (effect (seen m) cs)) (sym none) (lost_move (seen m) h g) in
-    subst (λ (fs : List (List TermSlot)). Gives FitMove (spec.land t u (reverse m.frames) (seen m)) old new (effect (term_memory m.store (reverse fs) m.result) cs)) same stays
+    let stays : Gives FitMove (spec.land t u (reverse m.frames) (memory_of m)) old new (effect (memory_of m) cs) = subst (λ (fs : List (List TermSlot)). Gives FitMove (spec.land t u (reverse fs) (memory_of m)) old new (effect (memory_of m) cs)) (sym none) (lost_move (memory_of m) h g) in
+    subst (λ (fs : List (List TermSlot)). Gives FitMove (spec.land t u (reverse m.frames) (memory_of m)) old new (effect (term_memory m.store (reverse fs) m.result) cs)) same stays
 
 -- by a script that is that of nowhere
 pub lost_by : {old new : Terms} {cs : List ℕ} {s : Script (Effect TermMemory)} (m : TermMemory) → s ≡ nowhere m → FitMemory (length old.ops) m → Gives AllBelow zero_alone old new cs → Gives FitMove s old new (effect m cs)
 lost_by {old} {new} {cs} m is h g = subst (λ s. Gives FitMove s old new (effect m cs)) (sym is) (lost_move m h g)
 
--- the caller's locals
-pub caller_store : (k : ℕ) (m : Memory) (fs : List (List TermSlot)) (ls : List TermSlot) → m.frames ≡ fs ++ ls ∷ [] → FitMemory k (seen m) → FitStore k (record { locals = ls; globals = m.store.globals })
-caller_store k m fs ls e h =
-    let frames : FitFrames k (ls ∷ reverse fs) = subst (FitFrames k) (ap reverse e ∙ called fs ls) h.frames in
-    record { locals = frames.0; globals = h.store.globals }
-
-pub landed : {old new : Terms} {s : TermStore} {cs : List ℕ} (t : Target) (u : Option Ty) (m n : Memory) (fs : List (List TermSlot)) (ls : List TermSlot) (r : Option Returned) → m.frames ≡ fs ++ ls ∷ [] → r ≡ spec.result_of u m.result → FitMemory (length old.ops) (seen m) → Gives FitEffect (spec.give t r (record { locals = ls; globals = m.store.globals })) old new (effect s cs) → n ≡ record { store = s; frames = fs; result = None } → Gives FitMove (spec.land t u (seen m).frames (seen m)) old new (effect (seen n) cs)
+pub landed : {old new : Terms} {s : TermStore} {cs : List ℕ} (t : Target) (u : Option Ty) (m n : Memory) (fs : List (List TermSlot)) (ls : List TermSlot) (r : Option Returned) → m.frames ≡ fs ++ ls ∷ [] → r ≡ spec.result_of u m.result → FitMemory (length old.ops) (memory_of m) → Gives FitEffect (spec.give t r (record { locals = ls; globals = m.store.globals })) old new (effect s cs) → n ≡ record { store = s; frames = fs; result = None } → Gives FitMove (spec.land t u (memory_of m).frames (memory_of m)) old new (effect (memory_of n) cs)
 landed {old} {new} {s} {cs} t u m n fs ls r e is h g made =
     let turned : reverse m.frames ≡ ls ∷ reverse fs = ap reverse e ∙ called fs ls in
     let frames : FitFrames (length old.ops) (ls ∷ reverse fs) = subst (FitFrames (length old.ops)) turned h.frames in
     let back : TermStore = record { locals = ls; globals = m.store.globals } in
     let given : Gives FitEffect (spec.give t (spec.result_of u m.result) back) old new (effect s cs) = subst (λ r. Gives FitEffect (spec.give t r back) old new (effect s cs)) is g in
     let fits : FitMove (length new.ops) (effect (term_memory s (reverse fs) None) cs) = record { now = record { store = g.fits.now; frames = frames_more (length old.ops) (length new.ops) (reverse fs) g.grows frames.1; result = tt }; conditions = g.fits.conditions } in
-    let whole : Gives FitMove (spec.land t u (ls ∷ reverse fs) (seen m)) old new (effect (term_memory s (reverse fs) None) cs) = gives_done FitMove (λ (e : Effect TermStore). effect (term_memory e.now (reverse fs) None) e.conditions) given fits in
-    subst (λ n. Gives FitMove (spec.land t u (reverse m.frames) (seen m)) old new (effect (seen n) cs)) (sym made) (subst (λ l. Gives FitMove (spec.land t u l (seen m)) old new (effect (term_memory s (reverse fs) None) cs)) (sym turned) whole)
+    let whole : Gives FitMove (spec.land t u (ls ∷ reverse fs) (memory_of m)) old new (effect (term_memory s (reverse fs) None) cs) = gives_done FitMove (λ (e : Effect TermStore). effect (term_memory e.now (reverse fs) None) e.conditions) given fits in
+    subst (λ n. Gives FitMove (spec.land t u (reverse m.frames) (memory_of m)) old new (effect (memory_of n) cs)) (sym made) (subst (λ l. Gives FitMove (spec.land t u l (memory_of m)) old new (effect (term_memory s (reverse fs) None) cs)) (sym turned) whole)

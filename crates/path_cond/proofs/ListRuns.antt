@@ -20,7 +20,7 @@ use Rattle.cond_laws.specs.TermPaths.{TermMemory, is_signed, TermsOf, conditions
 use Rattle.cond_laws.proofs.OperandFits.{below_more, below_append}
 use Rattle.term_steps.specs.Gives.{Gives}
 use Rattle.term_steps.proofs.Runs.{gives_then, gives_done}
-use Rattle.path_cond.proofs.Passing.{named}
+use Rattle.path_cond.proofs.EdgeRuns.{named}
 
 -- ---- loops' bounds
 
