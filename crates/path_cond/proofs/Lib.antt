@@ -1,0 +1,5 @@
+pub mod Declaring
+pub mod Beginning
+pub mod Calling
+pub mod Passing
+pub mod Wholes
