@@ -1,5 +1,5 @@
 -- Sums that are held at the last value of 64 bits, along a list.
-use Rattle.std.proofs.Common.{◌≡◌, ℕ, ◌+◌, ◌-◌, ◌^◌, ◌<◌, ◌≤◌, min, sym, ap, ◌∙◌, arith}
+use Rattle.std.proofs.Common.{◌≡◌, ℕ, ◌+◌, ◌-◌, ◌^◌, ◌<◌, ◌≤◌, min, ap, ◌∙◌, arith}
 use Rattle.path_weight.specs.Capped.{capped}
 
 joined : (m sum w rest : ℕ) → min (min (sum + min w m) m + rest) m ≡ min (sum + (w + rest)) m

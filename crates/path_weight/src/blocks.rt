@@ -3,7 +3,8 @@
 ghost use Rattle.std.specs.Prelude.{◌≡◌, [], ◌∷◌, false, nat_lt, if◌then◌else◌};
 ghost use Rattle.c_tree.specs.Blocks.{is_simple};
 ghost use Rattle.c_tree.specs.Statements.{held};
-ghost use Rattle.flow_laws.specs.BlockLists.{Asks, Gives, Jumps, Calls, block_of_run, block_at, blocks_of_stmt, blocks_of_list};
+ghost use Rattle.flow_laws.specs.BlockLists.{Asks, Gives, Jumps, Calls};
+ghost use Rattle.flow_laws.specs.BlockLists.{block_of_run, block_at, blocks_of_stmt, blocks_of_list};
 ghost use Rattle.cond_laws.specs.Weights as spec;
 ghost use Rattle.path_weight.specs.Capped.{capped};
 ghost use Rattle.path_weight.specs.Sought.{sought, block_part, copy_weight};
@@ -24,7 +25,8 @@ pub(crate) struct Found {
 
 // A run of simple statements, if it has one.
 fn seek_run(scope: Scope, run: &[Stmt], left: u32) -> Result<u32, Found>
-    ensures { result ≡ sought (block_part scope.entry.locals.now scope.entry.globals.now scope.entry.func) (block_of_run run.now) left }
+    ensures { result ≡ sought (block_part scope.entry.locals.now scope.entry.globals.now scope.entry.func)
+        (block_of_run run.now) left }
 {
     if run.is_empty() {
         return Ok(left);
@@ -38,7 +40,8 @@ fn seek_run(scope: Scope, run: &[Stmt], left: u32) -> Result<u32, Found>
 }
 
 fn seek_condition(scope: Scope, e: &Expr, left: u32) -> Result<u32, Found>
-    ensures { result ≡ sought (block_part scope.entry.locals.now scope.entry.globals.now scope.entry.func) (Asks e.now ∷ []) left }
+    ensures { result ≡ sought (block_part scope.entry.locals.now scope.entry.globals.now scope.entry.func)
+        (Asks e.now ∷ []) left }
 {
     match left.checked_sub(1) {
         Some(left) => Ok(left),
@@ -49,7 +52,8 @@ fn seek_condition(scope: Scope, e: &Expr, left: u32) -> Result<u32, Found>
 }
 
 fn seek_return(scope: Scope, value: &Option<Expr>, left: u32) -> Result<u32, Found>
-    ensures { result ≡ sought (block_part scope.entry.locals.now scope.entry.globals.now scope.entry.func) (Gives value.now ∷ []) left }
+    ensures { result ≡ sought (block_part scope.entry.locals.now scope.entry.globals.now scope.entry.func)
+        (Gives value.now ∷ []) left }
 {
     match left.checked_sub(1) {
         Some(left) => Ok(left),
@@ -60,7 +64,8 @@ fn seek_return(scope: Scope, value: &Option<Expr>, left: u32) -> Result<u32, Fou
 }
 
 fn seek_jump(scope: Scope, left: u32) -> Result<u32, Found>
-    ensures { result ≡ sought (block_part scope.entry.locals.now scope.entry.globals.now scope.entry.func) (Jumps ∷ []) left }
+    ensures { result ≡ sought (block_part scope.entry.locals.now scope.entry.globals.now scope.entry.func)
+        (Jumps ∷ []) left }
 {
     match left.checked_sub(1) {
         Some(left) => Ok(left),
@@ -75,7 +80,8 @@ fn seek_call(
     given: &[Expr],
     left: u32,
 ) -> Result<u32, Found>
-    ensures { result ≡ sought (block_part scope.entry.locals.now scope.entry.globals.now scope.entry.func) (Calls target callee given.now ∷ []) left }
+    ensures { result ≡ sought (block_part scope.entry.locals.now scope.entry.globals.now scope.entry.func)
+        (Calls target callee given.now ∷ []) left }
 {
     match left.checked_sub(1) {
         Some(left) => Ok(left),
@@ -87,7 +93,9 @@ fn seek_call(
 
 // The arguments of a call of a function above.
 fn call_weight(scope: Scope, callee: u32, given: &[Expr]) -> u64
-    ensures { result ≡ capped (if nat_lt callee scope.entry.func then spec.list_weight scope.entry.locals.now scope.entry.globals.now given.now else 0) }
+    ensures { result ≡ capped
+        (if nat_lt callee scope.entry.func
+        then spec.list_weight scope.entry.locals.now scope.entry.globals.now given.now else 0) }
 {
     if callee < scope.func {
         list_weight(scope, given)
@@ -99,7 +107,8 @@ fn call_weight(scope: Scope, callee: u32, given: &[Expr]) -> u64
 // The blocks of a list.
 #[cycle(seek)]
 fn seek_list(scope: Scope, list: &[Stmt], number: u32) -> Result<u32, Found>
-    ensures { result ≡ sought (block_part scope.entry.locals.now scope.entry.globals.now scope.entry.func) (blocks_of_list [] list.now) number }
+    ensures { result ≡ sought (block_part scope.entry.locals.now scope.entry.globals.now scope.entry.func)
+        (blocks_of_list [] list.now) number }
 {
     let mut left = number;
     let mut begun = 0;
@@ -118,7 +127,8 @@ fn seek_list(scope: Scope, list: &[Stmt], number: u32) -> Result<u32, Found>
 // The initialiser or the step of a `for`.
 #[cycle(seek)]
 fn seek_part(scope: Scope, part: &Option<Boxed<Stmt>>, left: u32) -> Result<u32, Found>
-    ensures { result ≡ sought (block_part scope.entry.locals.now scope.entry.globals.now scope.entry.func) (blocks_of_list [] (held part.now)) left }
+    ensures { result ≡ sought (block_part scope.entry.locals.now scope.entry.globals.now scope.entry.func)
+        (blocks_of_list [] (held part.now)) left }
 {
     match part {
         None => Ok(left),
@@ -138,7 +148,8 @@ fn seek_part(scope: Scope, part: &Option<Boxed<Stmt>>, left: u32) -> Result<u32,
 #[tactic(auto, using(node_contents::proofs::BlockLayers::block_layers, crate::proofs::Seeking::seeking))]
 fn seek(scope: Scope, stmt: &Stmt, left: u32) -> Result<u32, Found>
     requires { is_simple stmt.now ≡ false }
-    ensures { result ≡ sought (block_part scope.entry.locals.now scope.entry.globals.now scope.entry.func) (blocks_of_stmt stmt.now) left }
+    ensures { result ≡ sought (block_part scope.entry.locals.now scope.entry.globals.now scope.entry.func)
+        (blocks_of_stmt stmt.now) left }
 {
     match stmt {
         Stmt::Group(list) => seek_list(scope, list.as_slice(), left),

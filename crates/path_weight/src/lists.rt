@@ -9,10 +9,10 @@ use crate::blocks::block_weight;
 use flow_graph::Plan;
 use flow_laws::laws::edges::edges_join_nodes;
 
-/// The weight of a list of edges of the plan: the sum over its edges of 16 and what the source of the edge weighs, which
-/// is the sum over the expressions of its statements, arguments, condition or returned value. Where the sum would pass
-/// 64 bits it is their last value. It takes no memory; its time is that of going, for each edge, through the statements of
-/// one function.
+/// The weight of a list of edges of the plan: the sum over its edges of 16 and what the edge's source weighs, which
+/// is the sum over the expressions of its statements, arguments, condition or returned value. Where the sum would
+/// pass 64 bits it is their last value. It takes no memory; its time is that of going, for each edge, through the
+/// statements of one function.
 pub fn weight(plan: &Plan, list: &[u16]) -> u64
     requires { All (λ e. e < length (edges (graph plan.now.program))) list.now }
     ensures { result ≡ spec.weight plan.now.program list.now }

@@ -1,6 +1,6 @@
-use Rattle.std.proofs.Common.{◌<◌, ◌+◌, ◌∙◌, [], ◌++◌, length, sym, ap, arith, drop}
+use Rattle.std.proofs.Common.{◌<◌, ◌+◌, ◌∙◌, [], length, sym, ap, arith, drop}
 use Rattle.c_tree.specs.Statements.{held}
-use Rattle.flow_laws.specs.BlockLists.{Block, blocks_of_stmt, blocks_of_list}
+use Rattle.flow_laws.specs.BlockLists.{blocks_of_stmt, blocks_of_list}
 use Rattle.path_weight.specs.Sought.{sought, block_part}
 use Rattle.path_weight.proofs.Seeking.{err_is, on_ok, on_err, for_parts, simple_step, plain_step, no_run}
 use Rattle.path_weight.proofs.blocks.+seek.Goals as goal

@@ -1,4 +1,4 @@
-use Rattle.std.proofs.Common.{◌∙◌, ◌+◌, ◌-◌, ◌^◌, min, sym, ap}
+use Rattle.std.proofs.Common.{◌∙◌, sym, ap}
 use Rattle.path_weight.specs.Capped.{capped}
 use Rattle.path_weight.proofs.Sums.{with_sixteen}
 use Rattle.path_weight.proofs.Copies.{edge_named}
