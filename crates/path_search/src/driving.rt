@@ -16,7 +16,7 @@ use std::alloc::Global;
 /// Whether an input fits the program and drives a list of edges that is contiguous from Entry and not too heavy. It is
 /// answered by the terms of the list, whose words are computed at the input; nothing is searched. `NoMemory` is want of
 /// memory.
-#[tactic(auto, using(crate::proofs::Driving::driven_exactly))]
+#[tactic(auto, using(crate::proofs::DrivenInputs::driven_exactly))]
 pub fn is_driven_by(
     alloc: Global,
     plan: &Plan,

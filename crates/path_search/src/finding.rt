@@ -16,14 +16,11 @@ use sat_search::{Verdict, solve};
 use std::alloc::Global;
 
 /// Searches for an input that fits the program and drives a list of edges that is contiguous from Entry and not too
-/// heavy, by the formula of the list, of which at most `limit` clauses are learned. It answers an input that drives the
-/// list, or that none does; it gives up only with a log in hand that is worked at the limit. `NoMemory` is want of memory.
-pub fn find_input(
-    alloc: Global,
-    plan: &Plan,
-    list: &[u16],
-    limit: u32,
-) -> Result<Found, NoMemory>
+/// heavy. It asks the formula of the list, and learns at most `limit` clauses. The answer is an input that drives the
+/// list; or that none does; or that it gave up, and then there is a log for the formula that is worked at the limit: it
+/// has exactly `limit` lines, and each of them follows and teaches. `NoMemory` is want of memory; it is also the answer
+/// where the formula would have more than 2,147,483,647 variables or clauses.
+pub fn find_input(alloc: Global, plan: &Plan, list: &[u16], limit: u32) -> Result<Found, NoMemory>
     requires contiguous { follows (edges (graph plan.now.program)) list.now ≡ true }
     requires light { weight plan.now.program list.now ≤ most_weight }
     requires some { 0 < limit }
@@ -32,7 +29,10 @@ pub fn find_input(
 {
     let blasted = formula_of(alloc, plan, list)?;
     match solve(alloc, blasted.cnf(), limit) {
-        Ok(Verdict::Sat(assignment)) => Ok(Found::Driven(input_said(alloc, &blasted, &assignment)?)),
+        Ok(Verdict::Sat(assignment)) => {
+            let input = input_said(alloc, &blasted, &assignment)?;
+            Ok(Found::Driven(input))
+        }
         Ok(Verdict::Unsat(_)) => Ok(Found::Refuted),
         Ok(Verdict::GaveUp(_)) => Ok(Found::GaveUp),
         Err(_) => Err(NoMemory),

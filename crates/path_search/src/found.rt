@@ -9,6 +9,6 @@ pub enum Found {
     Driven(Input),
     /// No input drives the list.
     Refuted,
-    /// The search learned as many clauses as the limit allows, and knows no answer.
+    /// The search learned as many clauses as its limit allows, and has no answer.
     GaveUp,
 }
