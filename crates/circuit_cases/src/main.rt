@@ -6,12 +6,16 @@
 //! - `decode ## INPUTS ## TERMS ## CONDITIONS ## VALUES`: the input that the assignment says, each value 0 or 1, and
 //!   whether it satisfies the formula;
 //! - `holds ## OPERATOR ## WORDS; WORDS ..`: for each list whether the operator over all words but the last equals the
-//!   last, by the gates of its circuit in order.
+//!   last, by the gates of its circuit in order;
+//! - `solve ## INPUTS ## TERMS ## CONDITIONS ## LIMIT`: an input at which each condition is nonzero, found by the search
+//!   with this limit and checked by the words of the terms; or that there is none, or that the search gave up;
+//! - `verdict ## ..` with the same parts: the same without the numbers of the input, where there are several.
 #![tactic(auto)]
 
 mod answers;
 mod formula;
 mod gates;
+mod solutions;
 
 use std::io;
 

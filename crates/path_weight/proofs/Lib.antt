@@ -1,0 +1,4 @@
+pub mod WeightLayers
+mod Sums
+pub mod Seeking
+mod Copies
