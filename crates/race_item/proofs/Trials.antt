@@ -1,6 +1,6 @@
 -- What the trials of an input come to: the fork of a region is one, a split at it is lawful, and a path settles exactly where all is said.
 use Rattle.std.proofs.Common.{◌≡◌, ◌≤◌, ◌<◌, ℕ, zero, suc, ◌+◌, ◌-◌, Bool, true, false, List, [], ◌∷◌, ◌++◌, length, take, Option, Some, None, refl, sym, ap, ◌∙◌, subst, arith}
-use Rattle.std.specs.Prelude.{slice_get, is_some, IsTrue, IsSomeAnd, ◌&&◌, ◌↔◌, not, nat_lt}
+use Rattle.std.specs.Prelude.{slice_get, is_some, IsTrue, IsSomeAnd, ◌&&◌, ◌↔◌, nat_le, MatchOption}
 use Rattle.std.specs.List.{list_all}
 use Rattle.std.proofs.lemmas.Bool.{false≢true}
 use Rattle.std.proofs.lemmas.Bool.Decides.{nat_tests}
@@ -12,17 +12,18 @@ use Rattle.flow_laws.specs.Paths.{follows, keeps_each}
 use Rattle.flow_graph.specs.Plans.{Planned}
 use Rattle.ipet_rows.specs.Counts.{counts}
 use Rattle.path_walk.specs.declared.next.Next.{Next}
-use Rattle.path_walk.specs.declared.next.Next.TheVariants.{Long, Whole, Dead, Fork}
+use Rattle.path_walk.specs.declared.next.Next.TheVariants.{Fork}
 use Rattle.path_walk.specs.Walks.{IsAnswer}
 use Rattle.path_walk.proofs.Unique.{one_answer}
 use Rattle.race_item.specs.declared.region.Cut.{Cut}
+use Rattle.race_item.specs.declared.region.Child.{Child}
 use Rattle.race_item.specs.declared.region.Region.{Region}
 use Rattle.race_item.specs.Lists.{EachOf}
 use Rattle.race_item.specs.Regions.{IsWithin}
 use Rattle.race_item.specs.Items.{IsItem}
 use Rattle.race_item.specs.Facts.{IsSplit}
 use Rattle.race_item.specs.Forks.{IsWithinLimits, IsRoomBehind, ForkOf, SplitsAt, FindsBy, behind}
-use Rattle.race_item.specs.Trials.{HasNoFork, IsOnlyFork, IsLightAndDriven, SplitsNowhere, MaySettle, is_within, keeps_cuts}
+use Rattle.race_item.specs.Trials.{HasNoFork, IsOnlyFork, IsNoFork, IsLightAndDriven, SplitsNowhere, MaySettle, is_within, keeps_cuts}
 use Rattle.race_item.proofs.Boxes.{driven_in_box}
 use Rattle.race_item.proofs.Forks.{same_front, fork_splits}
 use Rattle.race_item.proofs.Extended.{extension_forks, forks_extend}
@@ -35,16 +36,10 @@ unkept p r broken a b h = false≢true (sym broken ∙ h.fork.kept)
 pub without_room : (p : Program) (r : Region) → ¬ IsWithinLimits p r.cuts r.prefix → HasNoFork p r
 without_room p r passed a b h = passed h.fork.within
 
-abbrev NotFork : Next → Type 0
-NotFork (Long q) = Unit {0}
-NotFork (Whole q) = Unit {0}
-NotFork (Dead q) = Unit {0}
-NotFork (Fork a b) = ⊥
+differ : (next : Next) (a b : List ℕ) → IsNoFork next → next ≡ Fork a b → ⊥
+differ next a b none is = subst IsNoFork is none
 
-differ : (next : Next) (a b : List ℕ) → NotFork next → next ≡ Fork a b → ⊥
-differ next a b none is = subst NotFork is none
-
-pub no_answer : (p : Program) (r : Region) (room : List ℕ) (next : Next) → IsRoomBehind p r.cuts r.prefix room → IsAnswer p r.prefix room next → NotFork next → HasNoFork p r
+pub no_answer : (p : Program) (r : Region) (room : List ℕ) (next : Next) → IsRoomBehind p r.cuts r.prefix room → IsAnswer p r.prefix room next → IsNoFork next → HasNoFork p r
 no_answer p r room next rooms answer none a b h =
     differ next a b none (one_answer p r.prefix room next (Fork a b) answer (forks_extend p r room a b rooms h))
 
@@ -56,6 +51,16 @@ only_fork p r room a b kept within rooms answer = record {
   fork = extension_forks p r room a b kept within rooms answer;
   only = λ c d h. same_first a b c d (one_answer p r.prefix room (Fork c d) (Fork a b) (forks_extend p r room c d rooms h) answer);
 }
+
+pub some_fork : (p : Program) (r : Region) (room : List ℕ) (next : Next) (o : Option (List ℕ × List ℕ)) → IsTrue (keeps_each (loops (graph p)) r.prefix) → IsWithinLimits p r.cuts r.prefix → IsRoomBehind p r.cuts r.prefix room → IsAnswer p r.prefix room next → MatchOption o (IsNoFork next) (λ lists. next ≡ Fork lists.0 lists.1) → MatchOption o (HasNoFork p r) (λ lists. IsOnlyFork p r lists.0 lists.1)
+some_fork p r room next None kept within rooms answer none = no_answer p r room next rooms answer none
+some_fork p r room next (Some lists) kept within rooms answer is =
+    only_fork p r room lists.0 lists.1 kept within rooms (subst (IsAnswer p r.prefix room) is answer)
+
+-- no fork, no split
+pub no_split : (p : Program) (r : Region) (input : Input) → HasNoFork p r → SplitsNowhere p r input
+no_split p r input none stem left right splits =
+    none (stem ++ left ∷ []) (stem ++ right ∷ []) (record { stem = stem; left = left; right = right; first = refl; second = refl; fork = splits.fork })
 
 -- ---- its stem
 
@@ -90,6 +95,15 @@ splits_at p r input a b q h is tried =
     let at : IsLightAndDriven p h.stem input = subst (λ l. IsLightAndDriven p l input) is tried in
     record { fork = h.fork; light = at.light; driven = at.driven }
 
+-- ---- its children
+
+abbrev pub child_by : List Cut → List ℕ → ℕ → Child
+child_by cuts prefix bound = record { cuts = cuts; prefix = prefix; bound = bound }
+
+pub two_children : (none one two : List Child) (x y x' y' : Child) → none ≡ [] → one ≡ none ++ x ∷ [] → two ≡ one ++ y ∷ [] → x ≡ x' → y ≡ y' → two ≡ x' ∷ y' ∷ []
+two_children none one two x y x' y' is_none is_one is_two is_x is_y =
+    is_two ∙ ap (λ (l : List Child). l ++ y ∷ []) (is_one ∙ ap (λ (l : List Child). l ++ x ∷ []) is_none) ∙ (λ i. is_x i ∷ is_y i ∷ [])
+
 -- ---- cuts
 
 both_parts : (x y : Bool) → (x && y) ≡ true → (x ≡ true) × (y ≡ true)
@@ -100,17 +114,32 @@ both_parts false y e = absurd (cc)
 both_true : (x y : Bool) → x ≡ true → y ≡ true → (x && y) ≡ true
 both_true x y h k = λ i. h i && k i
 
-not_above : (a b : ℕ) → not (nat_lt a b) ≡ true → b ≤ a
-not_above a b h = grind (arith, nat_tests)
+at_most : (a b : ℕ) → nat_le a b ≡ true → a ≤ b
+at_most a b h = grind (arith, nat_tests)
 
-above_not : (a b : ℕ) → b ≤ a → not (nat_lt a b) ≡ true
-above_not a b h = grind (arith, nat_tests)
+most_at : (a b : ℕ) → a ≤ b → nat_le a b ≡ true
+most_at a b h = grind (arith, nat_tests)
+
+not_most : (a b : ℕ) → b < a → nat_le a b ≡ false
+not_most a b h = grind (arith, nat_tests)
+
+-- a count from the lower limit on lies within the cut where it is at most the upper one
+pub within_low : (cut : Cut) (m n : ℕ) {o : Option ℕ} → m ≡ n → o ≡ Some n → cut.lo ≤ m → nat_le m cut.hi ≡ is_within cut o
+within_low cut m n same is le =
+    let low : nat_le cut.lo n ≡ true = most_at cut.lo n (omega (arith, same, le)) in
+    ap (λ k. nat_le k cut.hi) same ∙ sym (ap (λ b. b && nat_le n cut.hi) low) ∙ sym (ap (is_within cut) is)
+
+-- and a smaller one does not
+pub below_low : (cut : Cut) (m n : ℕ) {o : Option ℕ} → m ≡ n → o ≡ Some n → m < cut.lo → nat_le cut.lo m ≡ is_within cut o
+below_low cut m n same is lt =
+    let low : nat_le cut.lo n ≡ false = not_most cut.lo n (omega (arith, same, lt)) in
+    ap (λ k. nat_le cut.lo k) same ∙ low ∙ sym (ap (λ b. b && nat_le n cut.hi) low) ∙ sym (ap (is_within cut) is)
 
 within_is : (cut : Cut) (o : Option ℕ) → (is_within cut o ≡ true) ↔ IsSomeAnd o (λ n. (cut.lo ≤ n) × (n ≤ cut.hi))
 within_is cut None = (λ h. absurd (false≢true h), λ h. absurd h)
 within_is cut (Some n) = (
-  λ h. let parts = both_parts (not (nat_lt n cut.lo)) (not (nat_lt cut.hi n)) h in (not_above n cut.lo parts.0, not_above cut.hi n parts.1),
-  λ h. both_true (not (nat_lt n cut.lo)) (not (nat_lt cut.hi n)) (above_not n cut.lo h.0) (above_not cut.hi n h.1),
+  λ h. let parts = both_parts (nat_le cut.lo n) (nat_le n cut.hi) h in (at_most cut.lo n parts.0, at_most n cut.hi parts.1),
+  λ h. both_true (nat_le cut.lo n) (nat_le n cut.hi) (most_at cut.lo n h.0) (most_at n cut.hi h.1),
 )
 
 pub cuts_is : (p : Program) (q : List ℕ) (cuts : List Cut) → (keeps_cuts p q cuts ≡ true) ↔ EachOf (IsWithin (counts p q)) cuts
@@ -119,6 +148,12 @@ cuts_is p q (cut ∷ cuts) = (
   λ h. let parts = both_parts (is_within cut (slice_get (counts p q) cut.edge)) (keeps_cuts p q cuts) h in ((within_is cut (slice_get (counts p q) cut.edge)).0 parts.0, (cuts_is p q cuts).0 parts.1),
   λ h. both_true (is_within cut (slice_get (counts p q) cut.edge)) (keeps_cuts p q cuts) ((within_is cut (slice_get (counts p q) cut.edge)).1 h.0) ((cuts_is p q cuts).1 h.1),
 )
+
+pub cuts_at : (plan plan' : Planned) (r : Region) (path : List ℕ) (cuts : List Cut) (kept : Bool) → plan' ≡ plan → cuts ≡ r.cuts → kept ≡ keeps_cuts plan'.program path cuts → (kept ≡ true) ↔ EachOf (IsWithin (counts plan.program path)) r.cuts
+cuts_at plan plan' r path cuts kept is_plan is_cuts is =
+    let whole : kept ≡ keeps_cuts plan.program path r.cuts = is ∙ (λ i. keeps_cuts (is_plan i).program path (is_cuts i)) in
+    let both = cuts_is plan.program path r.cuts in
+    (λ h. both.0 (sym whole ∙ h), λ w. whole ∙ both.1 w)
 
 -- ---- a path
 

@@ -1,5 +1,5 @@
 -- Trials: what is tried with an input, to split an item at its next fork and to settle it by a path.
-use Rattle.std.specs.Prelude.{◌≡◌, ◌≤◌, ◌⊎◌, ◌&&◌, nat_lt, not, ℕ, zero, suc, Bool, false, List, [], ◌∷◌, slice_get, slice_set}
+use Rattle.std.specs.Prelude.{◌≡◌, ◌≤◌, ◌⊎◌, ◌&&◌, nat_le, ℕ, zero, suc, Bool, false, List, [], ◌∷◌, slice_get, slice_set}
 use Rattle.std.specs.List.{list_all}
 use Rattle.std.specs.Prelude.{Option, None, Some, option_and_then, length, slice_index}
 use Rattle.c_tree.specs.declared.program.Program.{Program}
@@ -11,6 +11,8 @@ use Rattle.flow_graph.specs.Plans.{Planned}
 use Rattle.ipet_rows.specs.Counts.{counts}
 use Rattle.cond_laws.specs.Weights.{weight, most_weight}
 use Rattle.path_formulas.specs.FormulasOfLists.{IsDrivenBy}
+use Rattle.path_walk.specs.declared.next.Next.{Next}
+use Rattle.path_walk.specs.declared.next.Next.TheVariants.{Long, Whole, Dead, Fork}
 use Rattle.race_item.specs.declared.region.Cut.{Cut}
 use Rattle.race_item.specs.declared.region.Region.{Region}
 use Rattle.race_item.specs.declared.settlement.Conclusion.{Conclusion}
@@ -50,6 +52,13 @@ pub record IsOnlyFork (p : Program) (r : Region) (a b : List ℕ) : Type 0 where
   pub fork : ForkOf p r a b
   pub only : (c d : List ℕ) → ForkOf p r c d → c ≡ a
 
+-- it is no fork
+abbrev pub IsNoFork : Next → Type 0
+IsNoFork (Long q) = Unit {0}
+IsNoFork (Whole q) = Unit {0}
+IsNoFork (Dead q) = Unit {0}
+IsNoFork (Fork a b) = ⊥
+
 -- the list is within the limit of weight, and the input fits and drives it
 pub record IsLightAndDriven (p : Program) (q : List ℕ) (input : Input) : Type 0 where
   pub light : weight p q ≤ most_weight
@@ -80,7 +89,7 @@ IsRoomOf p r (Some room) =
 -- whether a count is there and lies within a cut
 abbrev pub is_within : Cut → Option ℕ → Bool
 is_within cut None = false
-is_within cut (Some n) = not (nat_lt n cut.lo) && not (nat_lt cut.hi n)
+is_within cut (Some n) = nat_le cut.lo n && nat_le n cut.hi
 
 -- whether the counts of a list lie within each cut
 abbrev pub keeps_cuts : Program → List ℕ → List Cut → Bool

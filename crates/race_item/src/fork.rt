@@ -3,7 +3,9 @@
 ghost use Rattle.std.specs.Prelude.{◌≡◌, ◌↔◌, true, IsTrue, IfOk, IfSome, IfNone, MatchOption};
 ghost use Rattle.flow_laws.specs.Graphs.{graph, edges};
 ghost use Rattle.flow_laws.specs.Paths.{follows};
-ghost use Rattle.race_item.specs.Trials.{IsSplitByFork, SplitsNowhere, HasNoFork, IsOnlyFork, IsLightAndDriven};
+ghost use Rattle.path_walk.specs.declared.next.Next.TheVariants.{Fork};
+ghost use Rattle.race_item.specs.Trials.{IsSplitByFork, SplitsNowhere, HasNoFork, IsOnlyFork, IsNoFork};
+ghost use Rattle.race_item.specs.Trials.{IsLightAndDriven};
 
 use crate::item::Item;
 use crate::region::{Child, Cut};
@@ -11,7 +13,9 @@ use crate::room::room_of;
 use crate::settlement::Settlement;
 use c_tree::{Input, NoMemory};
 use flow_graph::Plan;
+use path_search::is_driven_by;
 use path_walk::{Next, extend};
+use path_weight::weight;
 use sqlite_items::Items;
 use std::alloc::Global;
 
@@ -57,10 +61,20 @@ fn next_fork<'p>(
     }
     match room_of(alloc, item)? {
         None => Ok(None),
-        Some(room) => match extend(alloc, plan, item.prefix(), room.as_slice())? {
-            Next::Fork(first, second) => Ok(Some((first, second))),
-            Next::Long(_) | Next::Whole(_) | Next::Dead(_) => Ok(None),
-        },
+        Some(room) => {
+            let next = extend(alloc, plan, item.prefix(), room.as_slice())?;
+            Ok(forked(next))
+        }
+    }
+}
+
+// The two lists of a fork.
+fn forked(next: Next) -> Option<(Items<u16>, Items<u16>)>
+    ensures { MatchOption result (IsNoFork next) (λ lists. next ≡ Fork lists.0 lists.1) }
+{
+    match next {
+        Next::Fork(first, second) => Some((first, second)),
+        Next::Long(_) | Next::Whole(_) | Next::Dead(_) => None,
     }
 }
 
@@ -101,7 +115,10 @@ pub(crate) fn drives(
     requires { follows (edges (graph plan.now.program)) list.now ≡ true }
     ensures { IfOk result (λ is. IsTrue is ↔ IsLightAndDriven plan.now.program list.now input.now) }
 {
-    Err(NoMemory)
+    if weight(plan, list) > MOST_WEIGHT {
+        return Ok(false);
+    }
+    is_driven_by(alloc, plan, list, input)
 }
 
 fn child(
