@@ -1,0 +1,3 @@
+pub mod OpenForks
+pub mod Undriven
+pub mod Onwards
