@@ -1,0 +1,108 @@
+-- The word of an operator over other operands.
+use Rattle.std.proofs.Common.{◌≡◌, ◌<◌, ℕ, zero, suc, ◌+◌, Bool, true, false, not, List, [], ◌∷◌, length, refl, sym, ap, ◌∙◌, subst, arith}
+use Rattle.bv_term.specs.declared.op.Op.{Op}
+use Rattle.bv_term.specs.declared.op.Op.TheVariants as op
+use Rattle.bv_term.specs.Words.{word_of}
+use Rattle.bv_term.specs.Stores.{FitsOp}
+use Rattle.bv_fold.specs.Folding.{operands, is_input}
+use Rattle.bv_fold.specs.Steps.{renamed, AreBelow}
+
+-- over renamed operands it is that over their words
+pub word_renamed : (input at to : ℕ → ℕ) (o : Op) → word_of input at (renamed to o) ≡ word_of input (λ s. at (to s)) o
+word_renamed input at to (op.Input n) = refl
+word_renamed input at to (op.Const n) = refl
+word_renamed input at to (op.Not a) = refl
+word_renamed input at to (op.Neg a) = refl
+word_renamed input at to (op.Add a b) = refl
+word_renamed input at to (op.Sub a b) = refl
+word_renamed input at to (op.Mul a b) = refl
+word_renamed input at to (op.DivU a b) = refl
+word_renamed input at to (op.RemU a b) = refl
+word_renamed input at to (op.DivS a b) = refl
+word_renamed input at to (op.RemS a b) = refl
+word_renamed input at to (op.Shl a b) = refl
+word_renamed input at to (op.ShrU a b) = refl
+word_renamed input at to (op.ShrS a b) = refl
+word_renamed input at to (op.And a b) = refl
+word_renamed input at to (op.Or a b) = refl
+word_renamed input at to (op.Xor a b) = refl
+word_renamed input at to (op.Eq a b) = refl
+word_renamed input at to (op.LtU a b) = refl
+word_renamed input at to (op.LtS a b) = refl
+word_renamed input at to (op.Ite c a b) = refl
+
+-- two words for each of these terms are the same
+abbrev pub AreSameAt : (ℕ → ℕ) → (ℕ → ℕ) → List ℕ → Type 0
+AreSameAt f g [] = Unit {0}
+AreSameAt f g (s ∷ ss) = (f s ≡ g s) × AreSameAt f g ss
+
+-- the word of an operator that is no input depends on those of its operands alone
+pub word_on_operands : (input other f g : ℕ → ℕ) (o : Op) → is_input o ≡ false → AreSameAt f g (operands o) → word_of input f o ≡ word_of other g o
+word_on_operands input other f g (op.Input n) no h = absurd (cc no)
+word_on_operands input other f g (op.Const n) no h = refl
+word_on_operands input other f g (op.Not a) no h = cc h.0
+word_on_operands input other f g (op.Neg a) no h = cc h.0
+word_on_operands input other f g (op.Add a b) no h = cc (h.0, h.1)
+word_on_operands input other f g (op.Sub a b) no h = cc (h.0, h.1)
+word_on_operands input other f g (op.Mul a b) no h = cc (h.0, h.1)
+word_on_operands input other f g (op.DivU a b) no h = cc (h.0, h.1)
+word_on_operands input other f g (op.RemU a b) no h = cc (h.0, h.1)
+word_on_operands input other f g (op.DivS a b) no h = cc (h.0, h.1)
+word_on_operands input other f g (op.RemS a b) no h = cc (h.0, h.1)
+word_on_operands input other f g (op.Shl a b) no h = cc (h.0, h.1)
+word_on_operands input other f g (op.ShrU a b) no h = cc (h.0, h.1)
+word_on_operands input other f g (op.ShrS a b) no h = cc (h.0, h.1)
+word_on_operands input other f g (op.And a b) no h = cc (h.0, h.1)
+word_on_operands input other f g (op.Or a b) no h = cc (h.0, h.1)
+word_on_operands input other f g (op.Xor a b) no h = cc (h.0, h.1)
+word_on_operands input other f g (op.Eq a b) no h = cc (h.0, h.1)
+word_on_operands input other f g (op.LtU a b) no h = cc (h.0, h.1)
+word_on_operands input other f g (op.LtS a b) no h = cc (h.0, h.1)
+word_on_operands input other f g (op.Ite c a b) no h = cc (h.0, h.1, h.2)
+
+-- an operator that fits has operands below, and fits where they are renamed below
+pub operands_below : (inputs k : ℕ) (o : Op) → FitsOp inputs k o → AreBelow k (operands o)
+operands_below inputs k (op.Input n) h = tt
+operands_below inputs k (op.Const n) h = tt
+operands_below inputs k (op.Not a) h = (h, tt)
+operands_below inputs k (op.Neg a) h = (h, tt)
+operands_below inputs k (op.Add a b) h = (h.0, h.1, tt)
+operands_below inputs k (op.Sub a b) h = (h.0, h.1, tt)
+operands_below inputs k (op.Mul a b) h = (h.0, h.1, tt)
+operands_below inputs k (op.DivU a b) h = (h.0, h.1, tt)
+operands_below inputs k (op.RemU a b) h = (h.0, h.1, tt)
+operands_below inputs k (op.DivS a b) h = (h.0, h.1, tt)
+operands_below inputs k (op.RemS a b) h = (h.0, h.1, tt)
+operands_below inputs k (op.Shl a b) h = (h.0, h.1, tt)
+operands_below inputs k (op.ShrU a b) h = (h.0, h.1, tt)
+operands_below inputs k (op.ShrS a b) h = (h.0, h.1, tt)
+operands_below inputs k (op.And a b) h = (h.0, h.1, tt)
+operands_below inputs k (op.Or a b) h = (h.0, h.1, tt)
+operands_below inputs k (op.Xor a b) h = (h.0, h.1, tt)
+operands_below inputs k (op.Eq a b) h = (h.0, h.1, tt)
+operands_below inputs k (op.LtU a b) h = (h.0, h.1, tt)
+operands_below inputs k (op.LtS a b) h = (h.0, h.1, tt)
+operands_below inputs k (op.Ite c a b) h = (h.0, h.1, h.2, tt)
+
+pub renamed_fits : (inputs k n : ℕ) (to : ℕ → ℕ) (o : Op) → FitsOp inputs k o → ((s : ℕ) → s < k → to s < n) → FitsOp inputs n (renamed to o)
+renamed_fits inputs k n to (op.Input n) h below = h
+renamed_fits inputs k n to (op.Const n) h below = h
+renamed_fits inputs k n to (op.Not a) h below = below a h
+renamed_fits inputs k n to (op.Neg a) h below = below a h
+renamed_fits inputs k n to (op.Add a b) h below = (below a h.0, below b h.1)
+renamed_fits inputs k n to (op.Sub a b) h below = (below a h.0, below b h.1)
+renamed_fits inputs k n to (op.Mul a b) h below = (below a h.0, below b h.1)
+renamed_fits inputs k n to (op.DivU a b) h below = (below a h.0, below b h.1)
+renamed_fits inputs k n to (op.RemU a b) h below = (below a h.0, below b h.1)
+renamed_fits inputs k n to (op.DivS a b) h below = (below a h.0, below b h.1)
+renamed_fits inputs k n to (op.RemS a b) h below = (below a h.0, below b h.1)
+renamed_fits inputs k n to (op.Shl a b) h below = (below a h.0, below b h.1)
+renamed_fits inputs k n to (op.ShrU a b) h below = (below a h.0, below b h.1)
+renamed_fits inputs k n to (op.ShrS a b) h below = (below a h.0, below b h.1)
+renamed_fits inputs k n to (op.And a b) h below = (below a h.0, below b h.1)
+renamed_fits inputs k n to (op.Or a b) h below = (below a h.0, below b h.1)
+renamed_fits inputs k n to (op.Xor a b) h below = (below a h.0, below b h.1)
+renamed_fits inputs k n to (op.Eq a b) h below = (below a h.0, below b h.1)
+renamed_fits inputs k n to (op.LtU a b) h below = (below a h.0, below b h.1)
+renamed_fits inputs k n to (op.LtS a b) h below = (below a h.0, below b h.1)
+renamed_fits inputs k n to (op.Ite c a b) h below = (below c h.0, below a h.1, below b h.2)
