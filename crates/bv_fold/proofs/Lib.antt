@@ -1,2 +1,4 @@
 pub mod Extended
 pub mod Renamed
+pub mod Folds
+pub mod Putting

@@ -1,10 +1,10 @@
 -- The steps of folding: the terms so far are folded, and the next one is put over them.
-use Rattle.std.specs.Prelude.{◌≡◌, ◌<◌, ◌&&◌, ℕ, Bool, true, false, List, [], ◌∷◌, length, replicate, slice_get, slice_index, IsTrue, IsSomeAnd, Option, Some, None, ℤ, pos}
+use Rattle.std.specs.Prelude.{◌≡◌, ◌<◌, ◌&&◌, ℕ, Bool, true, false, not, List, [], ◌∷◌, length, replicate, slice_get, slice_index, IsTrue, IsSomeAnd, Option, Some, None, ℤ, pos}
 use Rattle.c_tree.specs.declared.program.Input.{Input}
 use Rattle.bv_term.specs.declared.op.Op.{Op}
 use Rattle.bv_term.specs.declared.op.Op.TheVariants as op
 use Rattle.bv_term.specs.Stores.{Terms, tv, fits_store}
-use Rattle.bv_fold.specs.Folding.{operands}
+use Rattle.bv_fold.specs.Folding.{operands, is_input}
 
 abbrev pub AreBelow : ℕ → List ℕ → Type 0
 AreBelow k [] = Unit {0}
@@ -46,8 +46,7 @@ are_consts ops (s ∷ t ∷ ss) = is_const (slice_get ops s) && are_consts ops (
 
 -- the operator is no input, and its operands are constants
 abbrev pub is_over_constants : List Op → Op → Bool
-is_over_constants ops (op.Input n) = false
-is_over_constants ops o = are_consts ops (operands o)
+is_over_constants ops o = not (is_input o) && are_consts ops (operands o)
 
 -- the input whose numbers are all 0
 abbrev pub zeros : Terms → Input
