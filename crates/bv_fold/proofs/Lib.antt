@@ -2,3 +2,4 @@ pub mod Extended
 pub mod Renamed
 pub mod Folds
 pub mod Putting
+pub mod FoldedTerms

@@ -1,4 +1,4 @@
-use Rattle.std.proofs.Common.{◌≡◌, length, sym, subst, ◌∙◌}
+use Rattle.std.proofs.Common.{rules, ◌≡◌, length, sym, subst, ◌∙◌}
 use Rattle.bv_fold.specs.Folding.{operands}
 use Rattle.bv_fold.specs.Steps.{AreBelow, HasConstants, is_over_constants}
 use Rattle.bv_fold.proofs.Renamed.{operands_below}
