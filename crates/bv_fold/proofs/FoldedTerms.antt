@@ -16,7 +16,7 @@ use Rattle.bv_fold.proofs.Folds.{fits_at, zeros_fit}
 
 -- ---- further terms
 
-longer : (old new : Terms) → IsExtended old new → length old.ops ≤ length new.ops
+pub longer : (old new : Terms) → IsExtended old new → length old.ops ≤ length new.ops
 longer old new e = omega (arith, ap (λ l. length l) e.ops, length-append old.ops e.further)
 
 fits_before : (old new : Terms) (i : Input) → IsExtended old new → fits_store new i ≡ true → fits_store old i ≡ true
