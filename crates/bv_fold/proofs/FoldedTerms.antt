@@ -1,5 +1,5 @@
 -- The terms that were folded stay so while further terms are put, and one more is folded.
-use Rattle.std.proofs.Common.{◌≡◌, ◌<◌, ◌≤◌, ℕ, zero, suc, ◌+◌, Bool, true, false, not, ◌&&◌, List, [], ◌∷◌, ◌++◌, length, map, Option, Some, None, Result, Ok, Err, ⊎_elim, ℤ, pos, IsTrue, refl, sym, ap, ◌∙◌, subst, arith}
+use Rattle.std.proofs.Common.{◌≡◌, ◌<◌, ◌≤◌, ℕ, zero, suc, Bool, true, not, List, [], ◌∷◌, ◌++◌, length, map, Option, Some, Result, Ok, Err, ⊎_elim, ℤ, pos, IsTrue, refl, sym, ap, ◌∙◌, subst, arith}
 use Rattle.std.specs.Prelude.{slice_get, slice_index, replicate, Contains, IsSomeAnd, IfOk}
 use Rattle.std.proofs.lemmas.Bool.{and_from, cases_order}
 use Rattle.std.proofs.lemmas.List.{length-append}
@@ -7,7 +7,7 @@ use Rattle.c_tree.specs.declared.program.Input.{Input}
 use Rattle.c_tree.specs.Runs.{are_of}
 use Rattle.bv_term.specs.declared.op.Op.{Op}
 use Rattle.bv_term.specs.declared.op.Op.TheVariants as op
-use Rattle.bv_term.specs.Stores.{Terms, AreTerms, FitsOp, tv, words, fits_store, declared_ty}
+use Rattle.bv_term.specs.Stores.{Terms, AreTerms, tv, words, fits_store, declared_ty}
 use Rattle.bv_fold.specs.Folding.{operands, is_input, HasNoInput, NoInput, IsConst, IsExtended, IsFold}
 use Rattle.bv_fold.specs.Steps.{AreBelow, renamed, is_const, are_consts, is_over_constants, zeros, AreWords, IsSame, AreSame, HasConstants}
 use Rattle.bv_fold.proofs.Extended.{kept_op, tv_kept, words_count}

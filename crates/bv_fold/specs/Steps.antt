@@ -1,5 +1,5 @@
 -- The steps of folding: the terms so far are folded, and the next one is put over them.
-use Rattle.std.specs.Prelude.{◌≡◌, ◌<◌, ◌&&◌, ℕ, Bool, true, false, not, List, [], ◌∷◌, length, replicate, slice_get, slice_index, IsTrue, IsSomeAnd, Option, Some, None, ℤ, pos}
+use Rattle.std.specs.Prelude.{◌≡◌, ◌<◌, ◌&&◌, ℕ, Bool, true, false, not, List, [], ◌∷◌, length, replicate, slice_get, slice_index, IsTrue, IsSomeAnd, Option, Some, None, pos}
 use Rattle.c_tree.specs.declared.program.Input.{Input}
 use Rattle.bv_term.specs.declared.op.Op.{Op}
 use Rattle.bv_term.specs.declared.op.Op.TheVariants as op

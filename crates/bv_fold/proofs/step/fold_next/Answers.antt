@@ -1,6 +1,6 @@
-use Rattle.std.proofs.Common.{rules, ◌≡◌, length, sym, subst, ◌∙◌}
+use Rattle.std.proofs.Common.{rules, length, sym, subst, ◌∙◌}
 use Rattle.bv_fold.specs.Folding.{operands}
-use Rattle.bv_fold.specs.Steps.{AreBelow, HasConstants, is_over_constants}
+use Rattle.bv_fold.specs.Steps.{AreBelow, HasConstants}
 use Rattle.bv_fold.proofs.Renamed.{operands_below}
 use Rattle.bv_fold.proofs.Folds.{fits_at, over_folds_fits}
 use Rattle.bv_fold.proofs.Putting.{put_only_adds, other_same, constant_same, constant_found}

@@ -1,4 +1,4 @@
-use Rattle.std.proofs.Common.{◌≡◌, ℕ, ℤ, pos, length, Vec, Global, ap, ◌∙◌}
+use Rattle.std.proofs.Common.{◌≡◌, ℕ, pos, length, Vec, Global, ap, ◌∙◌}
 use Rattle.std.specs.Prelude.{replicate}
 use Rattle.bv_term.specs.Stores.{words}
 use Rattle.bv_fold.specs.Steps.{AreWords}
