@@ -67,4 +67,5 @@ pub record AreSame (terms : Terms) (folded : List ℕ) : Type 0 where
 
 -- the term has an operator that is no input, and the folds of its operands are constants
 abbrev pub HasConstants : List Op → List ℕ → ℕ → Type 0
-HasConstants ops folded term = IsSomeAnd (slice_get ops term) (λ o. IsTrue (is_over_constants ops (renamed (slice_index folded) o)))
+HasConstants ops folded term =
+    IsSomeAnd (slice_get ops term) (λ o. IsTrue (is_over_constants ops (renamed (slice_index folded) o)))

@@ -9,9 +9,9 @@ use crate::operands::{is_over_constants, over_folds};
 use bv_term::{Op, Terms};
 use c_tree::NoMemory;
 
-/// Folds the next term: `folded` has the folds of the terms before it, and `words` the words of terms at one input. Where
-/// the folds of its operands are constants, its word there is that at every input. `NoMemory` is want of memory, also
-/// where the store is full.
+/// Folds the next term: `folded` has the folds of the terms before it, and `words` the words of terms at one input.
+/// Where the folds of its operands are constants, its word there is that at every input. `NoMemory` is want of memory,
+/// also where the store is full.
 pub(crate) fn fold_next(
     terms: &mut Terms,
     words: &[u32],
@@ -26,7 +26,8 @@ pub(crate) fn fold_next(
     ensures fits { AreTerms terms.old }
     ensures kept { IsExtended terms.old terms.new }
     ensures same { IfOk result (λ t. IsSame terms.new term t) }
-    ensures constant { IfOk result (λ t. HasConstants terms.old.ops folded.now term → IsConst (slice_get terms.new.ops t)) }
+    ensures constant { IfOk result (λ t. HasConstants terms.old.ops folded.now term
+        → IsConst (slice_get terms.new.ops t)) }
 {
     if terms.len() == u32::MAX {
         return Err(NoMemory);
