@@ -1,6 +1,6 @@
 -- Calls and landings.
-use Rattle.std.proofs.Common.{◌≡◌, ◌<◌, ◌≤◌, ◌+◌, ◌^◌, ℕ, zero, suc, List, [], ◌∷◌, ◌++◌, length, drop, get_or, Option, Some, None, refl, sym, ap, ◌∙◌, subst, arith}
-use Rattle.std.specs.Prelude.{reverse, slice_get, MatchOption}
+use Rattle.std.proofs.Common.{◌≡◌, ◌<◌, ◌≤◌, ◌+◌, ◌^◌, ℕ, zero, suc, List, [], ◌∷◌, ◌++◌, length, drop, Option, Some, None, refl, sym, ap, ◌∙◌, subst, arith}
+use Rattle.std.specs.Prelude.{reverse, slice_get}
 use Rattle.std.proofs.lemmas.List.{reverse-append, drop-drop}
 use Rattle.c_tree.specs.declared.tree.Ty.{Ty}
 use Rattle.c_tree.specs.declared.tree.Var.{Var}
@@ -12,7 +12,7 @@ use Rattle.c_tree.specs.declared.program.Local.{Local as Declared}
 use Rattle.bv_term.specs.Stores.{Terms}
 use Rattle.bv_term.specs.Scripts.{Script, Done, ◌>>=◌}
 use Rattle.cond_laws.specs.declared.store.TermSlot.{TermSlot}
-use Rattle.cond_laws.specs.declared.store.TermSlot.TheVariants.{Unset, Number, Numbers}
+use Rattle.cond_laws.specs.declared.store.TermSlot.TheVariants.{Number, Numbers}
 use Rattle.cond_laws.specs.declared.store.TermStore.{TermStore}
 use Rattle.cond_laws.specs.declared.value.Returned.{Returned}
 use Rattle.cond_laws.specs.declared.value.Listed.{Listed}
@@ -25,7 +25,7 @@ use Rattle.cond_laws.specs.TermStores.{zeros, put_term}
 use Rattle.cond_laws.specs.TermPaths as spec
 use Rattle.cond_laws.specs.TermPaths.{TermMemory, term_memory}
 use Rattle.cond_laws.proofs.OperandFits.{below_more}
-use Rattle.cond_laws.proofs.ExpressionFits.{slot_more, slots_more, store_more, unset_fits, put_term_fits}
+use Rattle.cond_laws.proofs.ExpressionFits.{slots_more, store_more, unset_fits, put_term_fits}
 use Rattle.term_steps.specs.Gives.{Gives}
 use Rattle.term_steps.proofs.Runs.{Rest, rest_next, rest_joined, gives_then, gives_done, nothing_given, moved}
 use Rattle.term_effects.specs.Parts.{zero_alone}

@@ -1,6 +1,6 @@
 -- What the edges of a list do.
-use Rattle.std.proofs.Common.{Bor, Result, ◌≡◌, ◌<◌, ◌≤◌, ◌+◌, ◌^◌, ℕ, zero, suc, Bool, true, false, if◌then◌else◌, List, [], ◌∷◌, ◌++◌, length, drop, get_or, Option, Some, None, refl, sym, ap, ◌∙◌, subst, arith, append_assoc}
-use Rattle.std.specs.Prelude.{slice_get, map, is_some, ◌==◌}
+use Rattle.std.proofs.Common.{Bor, Result, ◌≡◌, ◌<◌, ◌+◌, ℕ, zero, suc, true, false, if◌then◌else◌, List, [], ◌∷◌, ◌++◌, length, drop, get_or, Option, Some, None, refl, sym, ap, ◌∙◌, subst, arith, append_assoc}
+use Rattle.std.specs.Prelude.{slice_get, is_some, ◌==◌}
 use Rattle.std.specs.Result.{IfOk}
 use Rattle.std.proofs.lemmas.Bool.{false≢true}
 use Rattle.std.proofs.lemmas.Option.{slice_get_within}
@@ -20,7 +20,6 @@ use Rattle.bv_term.specs.declared.op.Op.TheVariants as op
 use Rattle.bv_term.specs.Stores.{Terms}
 use Rattle.bv_term.specs.Scripts.{Script, Done, put, ◌>>=◌}
 use Rattle.cond_laws.specs.declared.value.Judged.{Judged}
-use Rattle.cond_laws.specs.Conditions.{AllBelow}
 use Rattle.cond_laws.specs.Fits.{Below, FitEffect, FitJudged, FitMemory}
 use Rattle.cond_laws.specs.Sizes.{IsSmallContent}
 use Rattle.cond_laws.specs.TermExpressions.{expr}
@@ -37,8 +36,7 @@ use Rattle.node_contents.specs.Contents.{content_of, contents}
 use Rattle.term_steps.specs.Gives.{Gives}
 use Rattle.term_steps.proofs.Runs.{Rest, rest_next, rest_joined, gives_then, gives_done}
 use Rattle.term_steps.proofs.ExpressionRuns.{mapped}
-use Rattle.path_cond.specs.declared.memory.Memory.{Memory}
-use Rattle.path_cond.specs.Memories.{memory_of, FitMove}
+use Rattle.path_cond.specs.Memories.{FitMove}
 use Rattle.path_cond.proofs.CallRuns.{memory_more, memory_with}
 
 -- ---- conditions

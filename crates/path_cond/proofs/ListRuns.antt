@@ -1,5 +1,5 @@
 -- The terms of a list of edges, as the code puts them.
-use Rattle.std.proofs.Common.{◌≡◌, ◌<◌, ◌≤◌, ℕ, Bool, true, false, List, [], ◌∷◌, ◌++◌, length, get_or, refl, sym, ap, ◌∙◌, subst, arith}
+use Rattle.std.proofs.Common.{◌≡◌, ℕ, Bool, true, List, [], ◌∷◌, ◌++◌, length, refl, ap, ◌∙◌, subst}
 use Rattle.std.specs.Prelude.{map, nat_lt, ◌&&◌, slice_get, is_some}
 use Rattle.std.specs.List.{list_all}
 use Rattle.std.proofs.lemmas.Bool.{lt-ltb}
@@ -11,7 +11,7 @@ use Rattle.flow_laws.specs.Graphs.{graph, edges, loops}
 use Rattle.flow_laws.specs.Paths.{led, follows, keeps_each}
 use Rattle.flow_graph.specs.Plans.{keeps_all}
 use Rattle.bv_term.specs.Stores.{Terms}
-use Rattle.bv_term.specs.Scripts.{Script, Done, ◌>>=◌, ops_after, outcome}
+use Rattle.bv_term.specs.Scripts.{Done, ◌>>=◌, ops_after, outcome}
 use Rattle.cond_laws.specs.declared.condition.PathCond.{PathCond}
 use Rattle.cond_laws.specs.Conditions.{AllBelow}
 use Rattle.cond_laws.specs.Fits.{FitMemory}

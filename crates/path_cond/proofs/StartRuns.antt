@@ -1,6 +1,6 @@
 -- The memory that a run begins with.
-use Rattle.std.proofs.Common.{◌≡◌, ◌<◌, ◌≤◌, ◌+◌, ◌-◌, ◌^◌, ℕ, zero, suc, Bool, true, false, if◌then◌else◌, List, [], ◌∷◌, ◌++◌, length, drop, get_or, Option, Some, None, ℤ, refl, sym, ap, ◌∙◌, subst, arith, append_assoc, append-nil, length-append}
-use Rattle.std.specs.Prelude.{map, reverse, slice_get, unwrap_or}
+use Rattle.std.proofs.Common.{◌≡◌, ◌<◌, ◌≤◌, ◌+◌, ◌-◌, ◌^◌, ℕ, zero, suc, Bool, true, false, if◌then◌else◌, List, [], ◌∷◌, ◌++◌, length, get_or, Option, Some, None, ℤ, refl, sym, ap, ◌∙◌, subst, arith, length-append}
+use Rattle.std.specs.Prelude.{slice_get}
 use Rattle.std.proofs.lemmas.List.{length-replicate}
 use Rattle.c_tree.specs.declared.tree.Ty.{Ty}
 use Rattle.c_tree.specs.declared.program.Local.{Local as Declared}
@@ -8,15 +8,15 @@ use Rattle.c_tree.specs.declared.program.Global.{Global as Outside}
 use Rattle.c_tree.specs.declared.program.Func.{Func}
 use Rattle.c_tree.specs.declared.program.Program.{Program}
 use Rattle.c_tree.specs.Values.{is_of}
-use Rattle.c_tree.specs.Runs.{types_of, param_types, outer_types, entry_types}
-use Rattle.c_tree.specs.WellFormed.{HasParams, AreNumbersOf, IsLength, WellFormedGlobal, WellFormedGlobals}
+use Rattle.c_tree.specs.Runs.{types_of, outer_types, entry_types}
+use Rattle.c_tree.specs.WellFormed.{HasParams, AreNumbersOf}
 use Rattle.flow_laws.specs.Sites.{Copy}
 use Rattle.flow_laws.specs.Graphs.{copies, copy_of}
 use Rattle.bv_term.specs.declared.op.Op.TheVariants as op
 use Rattle.bv_term.specs.Stores.{Terms}
 use Rattle.bv_term.specs.Scripts.{Script, Done, put, ◌>>=◌}
 use Rattle.cond_laws.specs.declared.store.TermSlot.{TermSlot}
-use Rattle.cond_laws.specs.declared.store.TermSlot.TheVariants.{Unset, Number, Numbers}
+use Rattle.cond_laws.specs.declared.store.TermSlot.TheVariants.{Numbers}
 use Rattle.cond_laws.specs.Conditions.{AllBelow}
 use Rattle.cond_laws.specs.Fits.{AsMany, Below, FitMemory, FitSlot, FitSlots}
 use Rattle.cond_laws.specs.Sizes.{AreSmallLocals, IsSmallCopy}
@@ -26,12 +26,11 @@ use Rattle.cond_laws.specs.TermPaths.{TermMemory, term_memory}
 use Rattle.cond_laws.proofs.OperandFits.{below_more, below_append}
 use Rattle.cond_laws.proofs.ExpressionFits.{slot_more, slots_more}
 use Rattle.term_steps.specs.Gives.{Gives}
-use Rattle.term_steps.proofs.Runs.{Rest, rest_next, rest_goes, rest_joined, rest_done, gives_then, gives_done, nothing_given, moved}
-use Rattle.term_steps.proofs.Growing.{below_stays, below_pushed}
+use Rattle.term_steps.proofs.Runs.{Rest, rest_next, rest_goes, rest_joined, gives_then, gives_done, moved}
 use Rattle.path_cond.specs.declared.memory.Memory.{Memory}
 use Rattle.path_cond.specs.Memories.{memory_of}
 use Rattle.path_cond.specs.Parts as part
-use Rattle.path_cond.proofs.DeclaredInputs.{many_params, params_within, global_types}
+use Rattle.path_cond.proofs.DeclaredInputs.{many_params, params_within}
 
 -- ---- inputs
 

@@ -1,5 +1,5 @@
 -- A memory of terms as the code has it: the locals of the callers stand innermost last. This project's own.
-use Rattle.std.specs.Prelude.{ℕ, List, reverse}
+use Rattle.std.specs.Prelude.{ℕ, reverse}
 use Rattle.cond_laws.specs.Conditions.{AllBelow}
 use Rattle.cond_laws.specs.Fits.{FitMemory}
 use Rattle.cond_laws.specs.TermStatements.{Effect}

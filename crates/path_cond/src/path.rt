@@ -37,7 +37,8 @@ fn broken(alloc: Global, terms: &mut Terms, keeps: bool) -> Result<Items<u32>, N
 
 /// The terms of a list of edges that is contiguous from Entry and not too heavy, and those that are all nonzero exactly
 /// at the fitting inputs that drive it. A loop's bound that the list breaks is one term more, which is 0. The time is
-/// linear in the program and in the weight of the list. `NoMemory` is want of memory, and the one refusal.
+/// linear in the program, in the weight of the list, and at each call in the callee's locals. `NoMemory` is want of
+/// memory, and the one refusal.
 pub fn condition(alloc: Global, plan: &Plan, list: &[u16]) -> Result<PathCond, NoMemory>
     requires contiguous { follows (edges (graph plan.now.program)) list.now ≡ true }
     requires light { weight plan.now.program list.now ≤ most_weight }

@@ -8,7 +8,7 @@ use Rattle.c_tree.specs.declared.tree.Stmt.{Stmt}
 use Rattle.c_tree.specs.declared.tree.Stmt.TheVariants.{For}
 use Rattle.c_tree.specs.Statements.{held}
 use Rattle.c_tree.specs.Blocks.{is_simple}
-use Rattle.flow_graph.proofs.Sums.{drop_is}
+use Rattle.graph_lists.proofs.Sums.{drop_is}
 use Rattle.node_contents.proofs.BlockLayers.{blocks_of_stmt-For}
 use Rattle.flow_laws.specs.BlockLists.{Block, Asks, block_of_run, blocks_of_stmt, blocks_of_list}
 use Rattle.path_weight.specs.declared.blocks.Found.{Found}

@@ -125,7 +125,6 @@ left_of [] room left h =
     record { long = ap length (sym same); each = λ e. let at : slice_index room e ≡ slice_index left e = ap (λ l. slice_index l e) same in omega (arith, at) }
 left_of (j ∷ q) room left h = left_by room j q left (λ r. left_of q r left) (slice_get room j) refl h
 
-
 none_by : (room : List ℕ) (j : ℕ) (q : List ℕ) → ((r : List ℕ) → taken r q ≡ None → ((e : ℕ) → count q e ≤ slice_index r e) → ⊥) → (o : Option ℕ) → slice_get room j ≡ o → option_and_then (λ r. taken r q) (one_taken room j o) ≡ None → ((e : ℕ) → count (j ∷ q) e ≤ slice_index room e) → ⊥
 none_by room j q ih None is h enough =
     let le = enough j in let counted = count_cons j j q in let one = self_one j in let none = no_index room j is in omega (arith, le, counted, one, none)

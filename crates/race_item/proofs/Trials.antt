@@ -70,6 +70,7 @@ take_front s x = ap (λ n. take n (s ++ x ∷ [])) (let n = length-back s x in o
     length-back : (s : List ℕ) (x : ℕ) → length (s ++ x ∷ []) ≡ suc (length s)
     length-back [] x = refl
     length-back (y ∷ s) x = ap suc (length-back s x)
+
     take_all : (s : List ℕ) (x : ℕ) → take (length s) (s ++ x ∷ []) ≡ s
     take_all [] x = refl
     take_all (y ∷ s) x = ap (λ l. y ∷ l) (take_all s x)

@@ -121,12 +121,7 @@ pub(crate) fn drives(
     is_driven_by(alloc, plan, list, input)
 }
 
-fn child(
-    alloc: Global,
-    cuts: &[Cut],
-    prefix: Items<u16>,
-    bound: u128,
-) -> Result<Child, NoMemory>
+fn child(alloc: Global, cuts: &[Cut], prefix: Items<u16>, bound: u128) -> Result<Child, NoMemory>
     ensures { IfOk result (λ c. c ≡ record { cuts = cuts.now; prefix = prefix; bound = bound }) }
 {
     let cuts = Items::from_slice(alloc, cuts)?;

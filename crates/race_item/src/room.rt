@@ -57,7 +57,11 @@ fn upper_limit(plan: &Plan, cuts: &[Cut], e: u16) -> u64
 fn lowered(most: u64, cut: Cut, e: u16) -> u64
     ensures { result ≡ (if cut.edge == e then min most cut.hi else most) }
 {
-    if cut.edge == e { most.min(cut.hi) } else { most }
+    if cut.edge == e {
+        most.min(cut.hi)
+    } else {
+        most
+    }
 }
 
 // The room that is left behind a list, if there is enough for it.

@@ -1,5 +1,5 @@
 use Rattle.std.proofs.Common.{◌∙◌, ◌+◌, sym, ap}
-use Rattle.flow_graph.proofs.Sums.{past_end}
+use Rattle.graph_lists.proofs.Sums.{past_end}
 use Rattle.cond_laws.specs.Weights.{sum_weight, weight}
 use Rattle.path_weight.specs.Capped.{capped}
 use Rattle.path_weight.proofs.Sums.{at_end}

@@ -24,13 +24,15 @@ returns-then-price-bound c =
     let path = c.args.path.now in
     let is_plan : c.plan-plan.result.now ≡ item.rows.plan = c.plan-plan.ensures ∙ ap (λ (s : PlanRows). s.plan) c.rows.ensures in
     let cuts = cuts_at item.rows.plan c.plan-plan.result.now item.region path c.cuts.result.now c.keeps_cuts.result is_plan c.cuts.ensures c.keeps_cuts.ensures in
-    let cost : c.price.result ≡ cost_of item.rows.plan path = c.price.ensures ∙ ap (λ (plan : Planned). cost_of plan path) is_plan in
-    (λ h. record {
-      is_path = subst (λ (plan : Planned). IsPath (edges (graph plan.program)) path) is_plan (c.if-not-is_path.ensures.0 refl);
-      begins = subst (λ q. Begins q path) c.prefix.ensures (c.if-not-begins.ensures.0 refl);
-      within = cuts.0 c.if-not-keeps_cuts.false;
-      dearest = inl (sym cost ∙ c.if-price-bound.true ∙ c.bound.ensures.value);
-    }, λ may. refl)
+    let cost : c.price.result ≡ cost_of item.rows.plan path = c.price.ensures ∙ ap (λ (plan : Planned). cost_of plan path) is_plan in (
+      λ h. record {
+        is_path = subst (λ (plan : Planned). IsPath (edges (graph plan.program)) path) is_plan (c.if-not-is_path.ensures.0 refl);
+        begins = subst (λ q. Begins q path) c.prefix.ensures (c.if-not-begins.ensures.0 refl);
+        within = cuts.0 c.if-not-keeps_cuts.false;
+        dearest = inl (sym cost ∙ c.if-price-bound.true ∙ c.bound.ensures.value);
+      },
+      λ may. refl,
+    )
 
 pub returns : goal.returns
 returns c =
@@ -39,10 +41,12 @@ returns c =
     let is_plan : c.plan-plan.result.now ≡ item.rows.plan = c.plan-plan.ensures ∙ ap (λ (s : PlanRows). s.plan) c.rows.ensures in
     let cuts = cuts_at item.rows.plan c.plan-plan.result.now item.region path c.cuts.result.now c.keeps_cuts.result is_plan c.cuts.ensures c.keeps_cuts.ensures in
     let cost : c.price.result ≡ cost_of item.rows.plan path = c.price.ensures ∙ ap (λ (plan : Planned). cost_of plan path) is_plan in
-    let whole = slice_eq-Decides Decides-eqb c.prefix-2.result.now path c.eq.result c.eq.ensures in
-    (λ h. record {
-      is_path = subst (λ (plan : Planned). IsPath (edges (graph plan.program)) path) is_plan (c.if-not-is_path.ensures.0 refl);
-      begins = subst (λ q. Begins q path) c.prefix.ensures (c.if-not-begins.ensures.0 refl);
-      within = cuts.0 c.if-not-keeps_cuts.false;
-      dearest = inr (sym c.prefix-2.ensures ∙ whole.0 h);
-    }, λ may. ⊎_elim (λ top. absurd (c.if-price-bound.false (cost ∙ top ∙ sym c.bound.ensures.value))) (λ same. whole.1 (c.prefix-2.ensures ∙ same)) may.dearest)
+    let whole = slice_eq-Decides Decides-eqb c.prefix-2.result.now path c.eq.result c.eq.ensures in (
+      λ h. record {
+        is_path = subst (λ (plan : Planned). IsPath (edges (graph plan.program)) path) is_plan (c.if-not-is_path.ensures.0 refl);
+        begins = subst (λ q. Begins q path) c.prefix.ensures (c.if-not-begins.ensures.0 refl);
+        within = cuts.0 c.if-not-keeps_cuts.false;
+        dearest = inr (sym c.prefix-2.ensures ∙ whole.0 h);
+      },
+      λ may. ⊎_elim (λ top. absurd (c.if-price-bound.false (cost ∙ top ∙ sym c.bound.ensures.value))) (λ same. whole.1 (c.prefix-2.ensures ∙ same)) may.dearest,
+    )
