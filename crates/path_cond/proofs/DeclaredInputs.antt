@@ -13,10 +13,6 @@ use Rattle.c_tree.specs.Runs.{types_of, param_types, outer_types, entry_types, i
 use Rattle.c_tree.specs.WellFormed.{HasParams, WellFormed, WellFormedFuncs}
 use Rattle.cond_laws.specs.TermPaths.{is_signed, width}
 
--- ---- so many of a type
-
--- ---- parameters
-
 -- ---- globals
 
 pub global_types : (g : Outside) (gs : List Outside) → outer_types (g ∷ gs) ≡ outer_types (g ∷ []) ++ outer_types gs

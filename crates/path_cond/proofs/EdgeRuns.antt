@@ -1,4 +1,4 @@
--- What the edges of a list do.
+-- The code of nodes, edges and lists of edges runs their scripts.
 use Rattle.std.proofs.Common.{Bor, Result, ◌≡◌, ◌<◌, ◌+◌, ℕ, zero, suc, true, false, if◌then◌else◌, List, [], ◌∷◌, ◌++◌, length, drop, get_or, Option, Some, None, refl, sym, ap, ◌∙◌, subst, arith, append_assoc}
 use Rattle.std.specs.Prelude.{slice_get, is_some, ◌==◌}
 use Rattle.std.specs.Result.{IfOk}

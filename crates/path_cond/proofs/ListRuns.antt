@@ -1,4 +1,4 @@
--- The terms of a list of edges, as the code puts them.
+-- The parts that the code ran, one after the other, make the terms of a list of edges.
 use Rattle.std.proofs.Common.{◌≡◌, ℕ, Bool, true, List, [], ◌∷◌, ◌++◌, length, refl, ap, ◌∙◌, subst}
 use Rattle.std.specs.Prelude.{map, nat_lt, ◌&&◌, slice_get, is_some}
 use Rattle.std.specs.List.{list_all}

@@ -7,14 +7,15 @@ ghost use Rattle.print_laws.specs.PrintedStatements.{margin, length_text, declar
 use c_tree::{BinOp, Func, Local, NoMemory, Program, Ty, UnOp, Var};
 use itoa::Buffer;
 
-pub(crate) fn push(text: &mut Vec<u8>, bytes: &[u8]) -> Result<(), NoMemory>
+/// Bytes as they are.
+pub fn push(text: &mut Vec<u8>, bytes: &[u8]) -> Result<(), NoMemory>
     ensures { OnOk result (text.new.items ≡ text.old.items ++ bytes.now) }
 {
     Ok(text.extend_from_slice(bytes)?)
 }
 
 /// A number in decimal.
-pub(crate) fn push_decimal(text: &mut Vec<u8>, number: u64) -> Result<(), NoMemory>
+pub fn push_decimal(text: &mut Vec<u8>, number: u64) -> Result<(), NoMemory>
     ensures { OnOk result (text.new.items ≡ text.old.items ++ decimal number) }
 {
     let mut buffer = Buffer::new();
@@ -23,7 +24,7 @@ pub(crate) fn push_decimal(text: &mut Vec<u8>, number: u64) -> Result<(), NoMemo
 
 /// A number of a type.
 #[tactic(auto, unfolding(print_laws::specs::PrintedExpressions::number_text))]
-pub(crate) fn push_number(text: &mut Vec<u8>, ty: Ty, number: u64) -> Result<(), NoMemory>
+pub fn push_number(text: &mut Vec<u8>, ty: Ty, number: u64) -> Result<(), NoMemory>
     ensures { OnOk result (text.new.items ≡ text.old.items ++ number_text ty number) }
 {
     push_decimal(text, number)?;
@@ -35,7 +36,7 @@ pub(crate) fn push_number(text: &mut Vec<u8>, ty: Ty, number: u64) -> Result<(),
 
 /// A kept value of a type.
 #[tactic(auto, unfolding(print_laws::specs::PrintedExpressions::value_text))]
-pub(crate) fn push_value(text: &mut Vec<u8>, ty: Ty, value: i64) -> Result<(), NoMemory>
+pub fn push_value(text: &mut Vec<u8>, ty: Ty, value: i64) -> Result<(), NoMemory>
     ensures { OnOk result (text.new.items ≡ text.old.items ++ value_text ty value) }
 {
     if value >= 0 {
@@ -48,8 +49,9 @@ pub(crate) fn push_value(text: &mut Vec<u8>, ty: Ty, value: i64) -> Result<(), N
     }
 }
 
+/// The word of a type.
 #[tactic(auto, unfolding(print_laws::specs::PrintedExpressions::type_text))]
-pub(crate) fn type_text(ty: Ty) -> &'static [u8]
+pub fn type_text(ty: Ty) -> &'static [u8]
     ensures { result.now ≡ type_text ty }
 {
     match ty {
@@ -58,8 +60,9 @@ pub(crate) fn type_text(ty: Ty) -> &'static [u8]
     }
 }
 
+/// The mark of a unary operator.
 #[tactic(auto, unfolding(print_laws::specs::PrintedExpressions::un_text))]
-pub(crate) fn un_text(op: UnOp) -> &'static [u8]
+pub fn un_text(op: UnOp) -> &'static [u8]
     ensures { result.now ≡ un_text op }
 {
     match op {
@@ -70,8 +73,9 @@ pub(crate) fn un_text(op: UnOp) -> &'static [u8]
     }
 }
 
+/// The mark of a binary operator.
 #[tactic(auto, unfolding(print_laws::specs::PrintedExpressions::bin_text))]
-pub(crate) fn bin_text(op: BinOp) -> &'static [u8]
+pub fn bin_text(op: BinOp) -> &'static [u8]
     ensures { result.now ≡ bin_text op }
 {
     match op {
@@ -98,7 +102,7 @@ pub(crate) fn bin_text(op: BinOp) -> &'static [u8]
 
 /// A variable by its name, in a function of a program.
 #[tactic(auto, unfolding(print_laws::specs::PrintedExpressions::name_text))]
-pub(crate) fn push_name(
+pub fn push_name(
     text: &mut Vec<u8>,
     program: &Program,
     func: &Func,
@@ -120,11 +124,7 @@ pub(crate) fn push_name(
 
 /// The function of a number by its name.
 #[tactic(auto, unfolding(print_laws::specs::PrintedStatements::func_name))]
-pub(crate) fn push_func_name(
-    text: &mut Vec<u8>,
-    program: &Program,
-    number: u32,
-) -> Result<(), NoMemory>
+pub fn push_func_name(text: &mut Vec<u8>, program: &Program, number: u32) -> Result<(), NoMemory>
     ensures { OnOk result (text.new.items ≡ text.old.items ++ func_name (slice_get program.now.funcs number)) }
 {
     match program.funcs.as_slice().get(number as usize) {
@@ -135,7 +135,7 @@ pub(crate) fn push_func_name(
 
 /// Four blanks for each level.
 #[tactic(auto, unfolding(print_laws::specs::PrintedStatements::margin))]
-pub(crate) fn push_margin(text: &mut Vec<u8>, level: usize) -> Result<(), NoMemory>
+pub fn push_margin(text: &mut Vec<u8>, level: usize) -> Result<(), NoMemory>
     ensures { OnOk result (text.new.items ≡ text.old.items ++ margin level) }
 {
     for _ in 0..level {
@@ -144,6 +144,7 @@ pub(crate) fn push_margin(text: &mut Vec<u8>, level: usize) -> Result<(), NoMemo
     Ok(())
 }
 
+// The length of an array, in brackets.
 #[tactic(auto, unfolding(print_laws::specs::PrintedStatements::length_text))]
 fn push_length(text: &mut Vec<u8>, length: Option<u32>) -> Result<(), NoMemory>
     ensures { OnOk result (text.new.items ≡ text.old.items ++ length_text length) }
@@ -160,7 +161,7 @@ fn push_length(text: &mut Vec<u8>, length: Option<u32>) -> Result<(), NoMemory>
 
 /// A type, a name, and the length of an array.
 #[tactic(auto, unfolding(print_laws::specs::PrintedStatements::declared_text))]
-pub(crate) fn push_declared(
+pub fn push_declared(
     text: &mut Vec<u8>,
     ty: Ty,
     name: &[u8],
@@ -176,7 +177,7 @@ pub(crate) fn push_declared(
 
 /// The declaration of a local, without an initialiser.
 #[tactic(auto, unfolding(print_laws::specs::PrintedStatements::declaration_text, print_laws::specs::PrintedStatements::local_text))]
-pub(crate) fn push_declaration(text: &mut Vec<u8>, func: &Func, number: u32) -> Result<(), NoMemory>
+pub fn push_declaration(text: &mut Vec<u8>, func: &Func, number: u32) -> Result<(), NoMemory>
     ensures { OnOk result (text.new.items ≡ text.old.items ++ declaration_text func.now number) }
 {
     match func.locals.as_slice().get(number as usize) {
