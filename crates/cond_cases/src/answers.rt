@@ -65,12 +65,7 @@ fn each_told(
     Ok(text)
 }
 
-fn told(
-    alloc: Global,
-    plan: &Plan,
-    condition: &PathCond,
-    input: &Input,
-) -> Result<String, Wrong>
+fn told(alloc: Global, plan: &Plan, condition: &PathCond, input: &Input) -> Result<String, Wrong>
     requires { (i : Input) → fits_store condition.now.terms i ≡ fits_of plan.now.program i }
 {
     if !fits(plan.program(), input) {
