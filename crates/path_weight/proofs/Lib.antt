@@ -2,3 +2,4 @@ pub mod WeightLayers
 mod Sums
 pub mod Seeking
 mod Copies
+mod Counts
