@@ -24,7 +24,7 @@ front_forced p r q front =
     record { contiguous = front.contiguous; begins_all = λ w driven covers. begins_with_front p r q w front driven covers }
 
 -- a driven path that begins with a list which may go on goes on by an edge that may follow
-by_an_edge : (p : Program) (r : Region) (q w : List ℕ) (e : ℕ) → MayGoOn p r.cuts q e → IsDriven p w → Covers p r w → (rest : List ℕ) → w ≡ q ++ rest → (d : ℕ) × MayGoOn p r.cuts q d × Begins (q ++ d ∷ []) w
+pub by_an_edge : (p : Program) (r : Region) (q w : List ℕ) (e : ℕ) → MayGoOn p r.cuts q e → IsDriven p w → Covers p r w → (rest : List ℕ) → w ≡ q ++ rest → (d : ℕ) × MayGoOn p r.cuts q d × Begins (q ++ d ∷ []) w
 by_an_edge p r q w e may driven covers [] is =
     absurd (not_at_exit p r.cuts q e may (subst (IsPath (edges (graph p))) (is ∙ append-nil q) driven.2.path))
 by_an_edge p r q w e may driven covers (d ∷ rest) is =

@@ -1,4 +1,4 @@
--- The room that is left of the upper limits behind the prefix of a region.
+-- The room that is left of the upper limits behind a list.
 use Rattle.std.proofs.Common.{◌≡◌, ◌≤◌, ◌<◌, ◌⊎◌, inl, inr, ⊎_elim, ℕ, zero, suc, ◌+◌, true, false, if◌then◌else◌, List, [], ◌∷◌, ◌++◌, length, Option, Some, None, refl, sym, ap, ◌∙◌, subst, arith}
 use Rattle.std.specs.Prelude.{slice_get, slice_set, slice_index, option_and_then, ◌==◌}
 use Rattle.std.proofs.lemmas.Bool.{eqb-true, ne_eqb}
@@ -9,7 +9,7 @@ use Rattle.flow_laws.specs.Graphs.{graph, edges}
 use Rattle.flow_laws.specs.Paths.{count}
 use Rattle.ipet_rows.specs.CapsBound.{cap_at}
 use Rattle.race_item.specs.declared.region.Cut.{Cut}
-use Rattle.race_item.specs.declared.region.Region.{Region}
+use Rattle.race_item.specs.declared.region.Cut.{Cut}
 use Rattle.race_item.specs.Regions.{upper_limit}
 use Rattle.race_item.specs.Trials.{AreUpperLimits, one_taken, taken, IsRoomOf}
 use Rattle.race_item.proofs.Fronts.{self_same}
@@ -139,15 +139,15 @@ none_left (j ∷ q) room h enough = none_by room j q (none_left q) (slice_get ro
 
 -- ---- the room of a region
 
-room_by : (p : Program) (r : Region) (limits : List ℕ) → AreUpperLimits p r.cuts limits → (o : Option (List ℕ)) → taken limits r.prefix ≡ o → IsRoomOf p r o
-room_by p r limits are None is =
-    λ within. none_left r.prefix limits is (λ e. let le = within e in let at = are.each e in omega (arith, le, at))
-room_by p r limits are (Some room) is =
-    let left = left_of r.prefix limits room is in (
+room_by : (p : Program) (cuts : List Cut) (q limits : List ℕ) → AreUpperLimits p cuts limits → (o : Option (List ℕ)) → taken limits q ≡ o → IsRoomOf p cuts q o
+room_by p cuts q limits are None is =
+    λ within. none_left q limits is (λ e. let le = within e in let at = are.each e in omega (arith, le, at))
+room_by p cuts q limits are (Some room) is =
+    let left = left_of q limits room is in (
       λ e. let balance = left.each e in let at = are.each e in omega (arith, balance, at),
       λ e. let balance = left.each e in let at = are.each e in omega (arith, balance, at),
       left.long ∙ are.many,
     )
 
-pub room_is : (p : Program) (r : Region) (limits : List ℕ) (o : Option (List ℕ)) → AreUpperLimits p r.cuts limits → o ≡ taken limits r.prefix → IsRoomOf p r o
-room_is p r limits o are is = room_by p r limits are o (sym is)
+pub room_is : (p : Program) (cuts : List Cut) (q limits : List ℕ) (o : Option (List ℕ)) → AreUpperLimits p cuts limits → o ≡ taken limits q → IsRoomOf p cuts q o
+room_is p cuts q limits o are is = room_by p cuts q limits are o (sym is)

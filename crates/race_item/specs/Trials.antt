@@ -80,11 +80,11 @@ abbrev pub taken : List ℕ → List ℕ → Option (List ℕ)
 taken room [] = Some room
 taken room (e ∷ q) = option_and_then (λ left. taken left q) (one_taken room e (slice_get room e))
 
--- what is left of the upper limits behind the prefix; there is none where the prefix passes a limit
-abbrev pub IsRoomOf : Program → Region → Option (List ℕ) → Type 0
-IsRoomOf p r None = ¬ IsWithinLimits p r.cuts r.prefix
-IsRoomOf p r (Some room) =
-    IsWithinLimits p r.cuts r.prefix × IsRoomBehind p r.cuts r.prefix room × (length room ≡ length (edges (graph p)))
+-- what is left of the upper limits behind a list; there is none where the list passes a limit
+abbrev pub IsRoomOf : Program → List Cut → List ℕ → Option (List ℕ) → Type 0
+IsRoomOf p cuts q None = ¬ IsWithinLimits p cuts q
+IsRoomOf p cuts q (Some room) =
+    IsWithinLimits p cuts q × IsRoomBehind p cuts q room × (length room ≡ length (edges (graph p)))
 
 -- whether a count is there and lies within a cut
 abbrev pub is_within : Cut → Option ℕ → Bool

@@ -9,7 +9,7 @@ ghost use Rattle.race_item.specs.Trials.{IsLightAndDriven};
 
 use crate::item::Item;
 use crate::region::{Child, Cut};
-use crate::room::room_of;
+use crate::room::room_behind;
 use crate::settlement::Settlement;
 use c_tree::{Input, NoMemory};
 use flow_graph::Plan;
@@ -59,7 +59,7 @@ fn next_fork<'p>(
     if !plan.keeps(item.prefix()) {
         return Ok(None);
     }
-    match room_of(alloc, item)? {
+    match room_behind(alloc, item, item.prefix())? {
         None => Ok(None),
         Some(room) => {
             let next = extend(alloc, plan, item.prefix(), room.as_slice())?;

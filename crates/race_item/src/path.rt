@@ -95,8 +95,8 @@ fn begins(path: &[u16], prefix: &[u16]) -> bool
     path.starts_with(prefix)
 }
 
-// Whether the counts of the list lie within each cut.
-fn keeps_cuts(plan: &Plan, list: &[u16], cuts: &[Cut]) -> bool
+/// Whether the counts of a list of edges lie within each cut, and each cut names an edge of the plan. It takes no memory.
+pub fn keeps_cuts(plan: &Plan, list: &[u16], cuts: &[Cut]) -> bool
     ensures { result ≡ keeps_cuts plan.now.program list.now cuts.now }
 {
     for cut in cuts {
@@ -130,8 +130,8 @@ fn count(list: &[u16], edge: u16) -> u64
     times
 }
 
-// What the list costs.
-fn price(plan: &Plan, list: &[u16]) -> u128
+/// What a list of edges costs that is contiguous from Entry: the sum of what its edges do. It takes no memory.
+pub fn price(plan: &Plan, list: &[u16]) -> u128
     requires { follows (edges (graph plan.now.program)) list.now ≡ true }
     ensures { result ≡ cost_of plan.now list.now }
 {

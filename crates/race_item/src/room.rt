@@ -1,4 +1,4 @@
-//! How often edges may still be taken behind the prefix of an item.
+//! How often edges may still be taken behind a list.
 
 ghost use Rattle.std.specs.Prelude.{◌≡◌, ◌<◌, ◌==◌, min, if◌then◌else◌, length, slice_get, IfOk};
 ghost use Rattle.c_tree.specs.WellFormed.{WellFormed};
@@ -14,13 +14,18 @@ use flow_laws::laws::edges::edges_join_nodes;
 use sqlite_items::Items;
 use std::alloc::Global;
 
-/// For each edge, how often it may still be taken behind the prefix: its upper limit in the item's box less the times that it
-/// stands in the prefix. There is no room where the prefix has an edge more often than its upper limit.
-pub(crate) fn room_of<'p>(alloc: Global, item: &Item<'p>) -> Result<Option<Items<u64>>, NoMemory>
-    ensures { IfOk result (λ room. IsRoomOf item.now.rows.plan.program item.now.region room) }
+/// For each edge, how often it may still be taken behind a list: its upper limit in the item's box less the times that it
+/// stands in the list. There is no room where the list has an edge more often than its upper limit. `NoMemory` is want of
+/// memory.
+pub fn room_behind<'p>(
+    alloc: Global,
+    item: &Item<'p>,
+    list: &[u16],
+) -> Result<Option<Items<u64>>, NoMemory>
+    ensures { IfOk result (λ room. IsRoomOf item.now.rows.plan.program item.now.region.cuts list.now room) }
 {
     let limits = upper_limits(alloc, item.rows().plan(), item.cuts())?;
-    Ok(take_all(limits, item.prefix()))
+    Ok(take_all(limits, list))
 }
 
 fn upper_limits(alloc: Global, plan: &Plan, cuts: &[Cut]) -> Result<Items<u64>, NoMemory>

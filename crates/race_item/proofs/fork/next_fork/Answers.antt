@@ -23,6 +23,6 @@ returns-in_ok-next-in-Some c =
     let next = c.in_ok-next-in-Some.next in
     let is_plan : c.plan-plan.result.now ≡ item.rows.plan = c.plan-plan.ensures ∙ ap (λ (s : PlanRows). s.plan) c.rows.ensures in
     let kept : c.keeps.result ≡ keeps_each (loops (graph p)) item.region.prefix = c.keeps.ensures ∙ (λ i. keeps_all (graph (is_plan i).program) (c.prefix.ensures i)) ∙ keeps_same p item.region.prefix c.bound.ensures.item.contiguous in
-    let room : IsRoomOf p item.region (Some c.in-Some.room) = subst (IsRoomOf p item.region) c.in-Some.is c.in_ok-room_of.ensures in
+    let room : IsRoomOf p item.region.cuts item.region.prefix (Some c.in-Some.room) = subst (IsRoomOf p item.region.cuts item.region.prefix) c.in-Some.is (rw c.prefix-2.ensures at c.in_ok-room_behind.ensures) in
     let answer : IsAnswer p item.region.prefix c.in-Some.room next = subst (λ (plan : Planned). IsAnswer plan.program item.region.prefix c.in-Some.room next) is_plan (subst (λ q. IsAnswer c.plan-plan.result.now.program q c.in-Some.room next) c.prefix-in-Some.ensures (subst (λ l. IsAnswer c.plan-plan.result.now.program c.prefix-in-Some.result.now l next) c.as_slice.ensures c.in_ok-next-in-Some.ensures.answers)) in
     some_fork p item.region c.in-Some.room next c.forked.result (sym kept ∙ c.if-not-keeps.false) room.0 room.1 answer c.forked.ensures
