@@ -1,6 +1,6 @@
 //! How an item is settled.
 
-ghost use Rattle.std.specs.Prelude.{◌<◌, IfOk};
+ghost use Rattle.std.specs.Prelude.{◌≡◌, ◌<◌, IfOk};
 ghost use Rattle.cnf_form.specs.Literals.{most};
 ghost use Rattle.flow_laws.specs.Graphs.{graph, edges};
 ghost use Rattle.flow_laws.specs.Paths.{IsPath};
@@ -10,7 +10,7 @@ ghost use Rattle.item_turn.specs.Steps.{IsOf, IsOpen};
 
 use crate::onward::{Onward, go_on};
 use crate::splitting::split;
-use crate::step::{Open, Step, found, step};
+use crate::step::{Open, Step, found, pass};
 use crate::trial::{Trial, copy, try_list};
 use c_tree::{Input, NoMemory};
 use item_bounds::counts_left;
@@ -138,25 +138,25 @@ fn at_fork<'p>(
 fn past_forks<'p>(
     alloc: Global,
     item: &Item<'p>,
-    open: Open,
+    first: Open,
     by: &[Multipliers],
     limit: u32,
 ) -> Result<Turned<'p>, NoMemory>
-    requires open { IsOpen item.now open }
+    requires fork { IsOpen item.now first }
     requires some { 0 < limit }
     requires few { limit < most }
     ensures { IfOk result (λ t. IsOf item.now limit t.settled) }
 {
-    let mut open = open;
+    let mut fork = first;
     for _ in 0..FORKS {
-        match step(alloc, item, &open, limit)? {
+        match pass(alloc, item, &fork, limit)? {
             Step::Settled(settled) => return Ok(without_input(settled)),
-            Step::On(further) => open = further,
+            Step::On(further) => fork = further,
             Step::Split => break,
         }
     }
-    let input = copy(alloc, &open.input)?;
-    let settled = split(alloc, item, open, by, limit)?;
+    let input = copy(alloc, &fork.input)?;
+    let settled = split(alloc, item, fork, by, limit)?;
     Ok(Turned {
         settled,
         input: Some(input),

@@ -16,14 +16,17 @@ use std::alloc::Global;
 pub(crate) fn split<'p>(
     alloc: Global,
     item: &Item<'p>,
-    open: Open,
+    fork: Open,
     by: &[Multipliers],
     limit: u32,
 ) -> Result<Settlement<'p>, NoMemory>
-    requires { IsOpen item.now open }
+    requires { IsOpen item.now fork }
     ensures { IfOk result (λ s. IsOf item.now limit s) }
 {
-    let Open { first, second, input } = open;
+    // The program is well-formed, and the item is one.
+    item.rows().plan().program();
+    item.bound();
+    let Open { first, second, input } = fork;
     let left = child(alloc, item, first, by)?;
     let right = child(alloc, item, second, by)?;
     let mut children = Items::new(alloc);

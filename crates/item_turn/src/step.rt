@@ -37,21 +37,21 @@ pub(crate) enum Step<'p> {
 }
 
 /// Tries both sides of the fork, and goes on along the one where the other covers no driven path.
-pub(crate) fn step<'p>(
+pub(crate) fn pass<'p>(
     alloc: Global,
     item: &Item<'p>,
-    open: &Open,
+    fork: &Open,
     limit: u32,
 ) -> Result<Step<'p>, NoMemory>
-    requires open { IsOpen item.now open.now }
+    requires fork { IsOpen item.now fork.now }
     requires some { 0 < limit }
     requires few { limit < most }
     ensures { IfOk result (λ s. IsStep item.now limit s) }
 {
     let plan = item.rows().plan();
-    let first = open.first.as_slice();
-    let second = open.second.as_slice();
-    let known = Some(&open.input);
+    let first = fork.first.as_slice();
+    let second = fork.second.as_slice();
+    let known = Some(&fork.input);
     match try_list(alloc, plan, first, known, limit)? {
         Trial::Refuted => match try_list(alloc, plan, second, known, limit)? {
             Trial::Refuted => Ok(Step::Settled(Settlement::refuted(item))),
@@ -138,6 +138,9 @@ pub(crate) fn found<'p>(item: &Item<'p>, path: &[u16], input: Input) -> Settleme
     ensures item { result.item ≡ item.now }
     ensures found { result.conclusion ≡ Found input (cost_of item.now.rows.plan path.now) }
 {
-    let cost = price(item.rows().plan(), path);
+    let plan = item.rows().plan();
+    // The program is well-formed.
+    plan.program();
+    let cost = price(plan, path);
     Settlement::found(item, input, cost)
 }
