@@ -1,6 +1,6 @@
 //! Cases of the conditions of lists of edges, line by line. Headings are written as they are, and for each case its
-//! answer stands on one line. A case has ` ## ` between its parts, and begins with a call, the text of a program with `@`
-//! for each line feed, and a list of edges with blanks between them. Each block costs 1. The calls:
+//! answer stands on one line. A case has ` ## ` between its parts, and begins with a call, the text of a program with
+//! `@` for each line feed, and a list of edges with blanks between them. Each block costs 1. The calls:
 //!
 //! - `weight ## TEXT ## EDGES`: the weight of the list;
 //! - `drives ## TEXT ## EDGES ## INPUT; INPUT ..`: for each input, its numbers with blanks between them, whether all

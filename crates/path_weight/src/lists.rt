@@ -41,7 +41,8 @@ fn times(list: &[u16], e: u16) -> u64
 // The weight of an edge so many times.
 fn weight_of_all(plan: &Plan, e: u16, times: u64) -> u64
     requires { e < length (edges (graph plan.now.program)) }
-    ensures { result ≡ capped (spec.edge_weight plan.now.program (slice_get (edges (graph plan.now.program)) e) * times) }
+    ensures { result ≡ capped
+        (spec.edge_weight plan.now.program (slice_get (edges (graph plan.now.program)) e) * times) }
 {
     if times == 0 {
         0
