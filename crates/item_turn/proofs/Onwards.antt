@@ -1,5 +1,5 @@
 -- To where a stretch goes on.
-use Rattle.std.proofs.Common.{◌≡◌, ◌≤◌, ◌<◌, ℕ, zero, suc, ◌+◌, ◌*◌, List, [], ◌∷◌, ◌++◌, length, Option, Some, None, true, false, refl, sym, ap, ◌∙◌, subst, arith, append_assoc, append-nil, if◌then◌else◌, All, IsTrue}
+use Rattle.std.proofs.Common.{◌≡◌, ◌≤◌, ◌<◌, ℕ, zero, suc, ◌+◌, ◌*◌, List, [], ◌∷◌, ◌++◌, length, Option, Some, None, true, false, refl, sym, ap, ◌∙◌, subst, arith, append_assoc, append-nil, if◌then◌else◌, All}
 use Rattle.std.specs.Prelude.{slice_get, ◌==◌}
 use Rattle.std.proofs.lemmas.Bool.{false≢true, eqb-true}
 use Rattle.c_tree.specs.declared.program.Program.{Program}
@@ -18,7 +18,7 @@ use Rattle.cond_laws.specs.Weights.{weight, sum_weight, edge_weight}
 use Rattle.ipet_rows.specs.Counts.{counts}
 use Rattle.race_item.specs.declared.region.Cut.{Cut}
 use Rattle.race_item.specs.declared.region.Region.{Region}
-use Rattle.race_item.specs.Regions.{Covers, IsFront, IsInBox, MayGoOn, upper_limit}
+use Rattle.race_item.specs.Regions.{Covers, IsFront, IsInBox, upper_limit}
 use Rattle.race_item.specs.Facts.{IsRefuted, IsHeavy}
 use Rattle.race_item.specs.Forks.{IsWithinLimits, IsRoomBehind}
 use Rattle.race_item.proofs.Boxes.{count_within}
@@ -26,9 +26,7 @@ use Rattle.race_item.proofs.Fronts.{driven_may, step_on}
 use Rattle.race_item.proofs.Named.{all_named}
 use Rattle.race_item.proofs.Extended.{may_go, may_follow, must_go}
 use Rattle.race_item.proofs.Forced.{walk_forced}
-use Rattle.item_turn.specs.declared.onward.Onward.{Onward}
-use Rattle.item_turn.specs.declared.onward.Onward.TheVariants.{Nowhere, Path, Fork, Long}
-use Rattle.item_turn.specs.Stretches.{IsStretch, IsOnFrom, IsOnward, AreFork, onward_of}
+use Rattle.item_turn.specs.Stretches.{IsStretch, IsOnFrom, IsOnward, onward_of}
 
 -- ---- stretches
 

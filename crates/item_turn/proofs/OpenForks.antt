@@ -1,7 +1,7 @@
 -- A fork whose stem some input drives splits an item, with children of lower bounds.
-use Rattle.std.proofs.Common.{◌≡◌, ◌≤◌, inl, inr, ⊎_elim, ℕ, List, [], ◌∷◌, ◌++◌, refl, sym, ap, ◌∙◌, subst, append_assoc, append-nil}
+use Rattle.std.proofs.Common.{◌≡◌, inl, inr, ⊎_elim, ℕ, List, [], ◌∷◌, ◌++◌, refl, sym, ap, ◌∙◌, subst, append_assoc}
 use Rattle.c_tree.specs.WellFormed.{WellFormed}
-use Rattle.flow_laws.specs.Graphs.{graph, edges, loops}
+use Rattle.flow_laws.specs.Graphs.{graph, loops}
 use Rattle.flow_laws.specs.Driving.{Drives}
 use Rattle.flow_laws.specs.Claims.{IsDriven, IsDrivenList}
 use Rattle.flow_laws.proofs.Prefixes.{driven_front, each_is}

@@ -1,6 +1,5 @@
 -- What the answers of calls say of an item, where the calls were given its plan and its lists by other names.
-use Rattle.std.proofs.Common.{◌≡◌, ◌≤◌, ◌∷◌, ◌++◌, [], ℕ, List, length, take, ◌-◌, refl, sym, ap, ◌∙◌, subst, arith, append-nil, length-append}
-use Rattle.flow_laws.specs.Graphs.{graph, edges}
+use Rattle.std.proofs.Common.{◌≡◌, ◌∷◌, ◌++◌, [], ℕ, List, length, sym, ap, ◌∙◌, subst, arith, append-nil, length-append}
 use Rattle.flow_graph.specs.Plans.{Planned}
 use Rattle.ipet_rows.specs.Sound.{PlanRows}
 use Rattle.race_item.specs.declared.region.Region.{Region}

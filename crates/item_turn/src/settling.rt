@@ -57,7 +57,13 @@ pub(crate) fn settle<'p>(
     match go_on(alloc, item, item.prefix())? {
         Onward::Nowhere => Ok(without_input(Settlement::refuted(item))),
         Onward::Long(_) => Ok(without_input(heavy(alloc, item, known, limit)?)),
-        Onward::Path(path) => Ok(without_input(at_path(alloc, item, path.as_slice(), known, limit)?)),
+        Onward::Path(path) => Ok(without_input(at_path(
+            alloc,
+            item,
+            path.as_slice(),
+            known,
+            limit,
+        )?)),
         Onward::Fork(first, second) => at_fork(alloc, item, first, second, known, by, limit),
     }
 }
@@ -127,7 +133,17 @@ fn at_fork<'p>(
 {
     let stem = &first.as_slice()[..first.len() - 1];
     match try_list(alloc, item.rows().plan(), stem, known, limit)? {
-        Trial::Driven(input) => past_forks(alloc, item, Open { first, second, input }, by, limit),
+        Trial::Driven(input) => past_forks(
+            alloc,
+            item,
+            Open {
+                first,
+                second,
+                input,
+            },
+            by,
+            limit,
+        ),
         Trial::Refuted => Ok(without_input(Settlement::refuted(item))),
         Trial::GaveUp => Ok(without_input(Settlement::park_conflicts(item, limit))),
         Trial::Heavy => Ok(without_input(heavy(alloc, item, known, limit)?)),

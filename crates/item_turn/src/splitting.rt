@@ -26,7 +26,11 @@ pub(crate) fn split<'p>(
     // The program is well-formed, and the item is one.
     item.rows().plan().program();
     item.bound();
-    let Open { first, second, input } = fork;
+    let Open {
+        first,
+        second,
+        input,
+    } = fork;
     let left = child(alloc, item, first, by)?;
     let right = child(alloc, item, second, by)?;
     let mut children = Items::new(alloc);
@@ -44,7 +48,14 @@ fn child<'p>(
 ) -> Result<Child, NoMemory>
     ensures { IfOk result (λ c. IsChild item.now prefix c) }
 {
-    let bound = bound_left(alloc, item.rows(), item.cuts(), prefix.as_slice(), by, item.bound())?;
+    let bound = bound_left(
+        alloc,
+        item.rows(),
+        item.cuts(),
+        prefix.as_slice(),
+        by,
+        item.bound(),
+    )?;
     let cuts = Items::from_slice(alloc, item.cuts())?;
     Ok(Child {
         cuts,

@@ -125,7 +125,11 @@ fn at_fork<'p>(
 {
     let stem = &first.as_slice()[..first.len() - 1];
     match try_list(alloc, item.rows().plan(), stem, Some(known), limit)? {
-        Trial::Driven(input) => Ok(Step::On(Open { first, second, input })),
+        Trial::Driven(input) => Ok(Step::On(Open {
+            first,
+            second,
+            input,
+        })),
         Trial::Refuted => Ok(Step::Settled(Settlement::refuted(item))),
         Trial::GaveUp | Trial::Heavy => Ok(Step::Split),
     }

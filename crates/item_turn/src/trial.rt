@@ -26,7 +26,8 @@ pub(crate) enum Trial {
     Driven(Input),
     /// No input drives the list.
     Refuted,
-    /// The search learned as many clauses as its limit allows; zeros do not drive the list, and there is an input number.
+    /// The search learned as many clauses as its limit allows; zeros do not drive the list, and there is an input
+    /// number.
     GaveUp,
     /// The list is too heavy to be decided.
     Heavy,

@@ -12,8 +12,8 @@ use race_item::{Item, Limits, Refuter, Settlement};
 use sqlite_items::Items;
 use std::alloc::Global;
 
-/// Takes turns on the items of some rows: it refutes an item, splits it, finds its dearest run, or parks it. It keeps an input
-/// that drove an item, and the multipliers of the plan's optimum once it has made them; no contract speaks of these.
+/// Takes turns on the items of some rows: it refutes an item, splits it, finds its dearest run, or parks it. It keeps an
+/// input that drove an item, and the multipliers of the plan's optimum once it has made them; no contract speaks of these.
 pub struct Turner<'p> {
     rows: &'p SoundRows<'p>,
     limits: Limits,
@@ -26,8 +26,8 @@ impl<'p> Turner<'p> {
     /// One for the items of these rows, with these limits. It takes no memory.
     pub fn new(rows: &'p SoundRows<'p>, limits: Limits) -> Turner<'p>
         requires { AreLimits limits }
-        ensures rows { result.rows.now ≡ rows.now }
-        ensures limits { result.limits ≡ limits }
+        ensures rows { ⟦<Turner<'p> as Refuter<'p>>⟧.rows result ≡ rows.now }
+        ensures limit { ⟦<Turner<'p> as Refuter<'p>>⟧.limit result ≡ limits.conflicts }
     {
         Turner {
             rows,
@@ -52,7 +52,13 @@ impl<'p> Refuter<'p> for Turner<'p> {
             None => &[],
             Some(by) => by.as_slice(),
         };
-        let Turned { settled, input } = settle(alloc, item, self.known.as_ref(), by, self.limits.conflicts)?;
+        let Turned { settled, input } = settle(
+            alloc,
+            item,
+            self.known.as_ref(),
+            by,
+            self.limits.conflicts,
+        )?;
         if input.is_some() {
             self.known = input;
         }
@@ -60,8 +66,8 @@ impl<'p> Refuter<'p> for Turner<'p> {
     }
 }
 
-// Multipliers whose dual values bound what paths cost: none, which bounds by what the edges cost, and those of the plan's
-// optimum.
+// Multipliers whose dual values bound what paths cost: none, which bounds by what the edges cost, and those of the
+// plan's optimum.
 fn multipliers<'p>(alloc: Global, rows: &'p SoundRows<'p>) -> Result<Items<Multipliers>, NoMemory> {
     let y = vec![in alloc; 0i128; rows.rows().rows().len()]?;
     let optimum = peak(alloc, rows.plan())?;

@@ -1,4 +1,4 @@
-use Rattle.std.proofs.Common.{◌≡◌, ◌-◌, ℕ, List, take, length, ap, ◌∙◌}
+use Rattle.std.proofs.Common.{◌-◌, take, ◌∙◌}
 use Rattle.item_turn.specs.declared.trial.Trial.TheVariants.{Driven, Refuted}
 use Rattle.race_item.proofs.Trials.{stem_is}
 use Rattle.item_turn.proofs.Undriven.{undriven}

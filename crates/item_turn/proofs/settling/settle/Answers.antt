@@ -1,5 +1,4 @@
 use Rattle.std.proofs.Common.{subst}
-use Rattle.item_turn.specs.declared.onward.Onward.TheVariants.{Fork}
 use Rattle.item_turn.specs.Stretches.{IsOnward}
 use Rattle.item_turn.proofs.settling.settle.Goals as goal
 

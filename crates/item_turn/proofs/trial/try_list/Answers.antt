@@ -1,4 +1,4 @@
-use Rattle.std.proofs.Common.{◌≡◌, ◌∙◌, sym, subst}
+use Rattle.std.proofs.Common.{◌∙◌, sym, subst}
 use Rattle.std.proofs.lemmas.Bool.{false≢true}
 use Rattle.flow_laws.specs.Graphs.{graph, edges}
 use Rattle.path_formulas.specs.FormulasOfLists.{IsDrivenBy}
