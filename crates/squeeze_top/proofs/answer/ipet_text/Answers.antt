@@ -1,7 +1,7 @@
 -- What is written is how many block copies there are, and the optimum, which no run exceeds.
 use Rattle.std.proofs.Common.{ap, ◌∙◌}
 use Rattle.squeeze_top.specs.Answers.{ipet_lines}
-use Rattle.squeeze_top.proofs.answer.ipet_answer.Goals as goal
+use Rattle.squeeze_top.proofs.answer.ipet_text.Goals as goal
 
 pub returns : goal.returns
 returns c =
@@ -9,5 +9,7 @@ returns c =
       bound = c.in_ok-peak.peak.value;
       optimum = c.in_ok-peak.ensures.peak.optimum;
       above = c.in_ok-peak.ensures.above;
-      lines = c.in_ok-ipet_lines.ensures ∙ ap (λ n. ipet_lines n c.in_ok-peak.peak.value) c.copies.ensures.count;
+      fits = c.in_ok-ipet_lines.ensures.fits;
+      few = c.copies.ensures.few;
+      lines = c.in_ok-ipet_lines.ensures.lines ∙ ap (λ n. ipet_lines n c.in_ok-peak.peak.value) c.copies.ensures.count;
     }

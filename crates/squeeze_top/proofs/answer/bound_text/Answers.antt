@@ -1,5 +1,5 @@
 -- What is written is the optimum, which no run exceeds.
-use Rattle.squeeze_top.proofs.answer.bound_answer.Goals as goal
+use Rattle.squeeze_top.proofs.answer.bound_text.Goals as goal
 
 pub returns : goal.returns
 returns c =
@@ -7,5 +7,6 @@ returns c =
       bound = c.in_ok-peak.peak.value;
       optimum = c.in_ok-peak.ensures.peak.optimum;
       above = c.in_ok-peak.ensures.above;
-      line = c.in_ok-bound_line.ensures;
+      fits = c.in_ok-bound_line.ensures.fits;
+      line = c.in_ok-bound_line.ensures.line;
     }
