@@ -39,9 +39,9 @@ pub struct Front {
     pub input: Option<Input>,
 }
 
-/// Reads and plans, in the order of work: the program's bytes and their size, its tokens, its unit, its names, kinds and
-/// bounds; the input; the table's bytes and their size, and its costs; the limits of the flat graph. The first that is
-/// wrong is told; want of memory may come before any of them. What is said of a file holds where the shelf tells its
+/// Reads and plans, in the order of work: the program's bytes and their size, its tokens, its unit, its names, kinds
+/// and bounds; the input; the table's bytes and their size, and its costs; the limits of the flat graph. The first that
+/// is wrong is told; want of memory may come before any of them. What is said of a file holds where the shelf tells its
 /// contents.
 pub fn front_end<S: Shelf>(alloc: Global, shelf: &mut S, source: &Source) -> Result<Front, Halt>
     ensures front { IfOk result (IsFront (source_of source.now) (S.contents shelf.old)) }

@@ -44,8 +44,11 @@ pub fn put_lines<K: Sink>(out: &mut K, text: &[u8]) -> Result<(), Failed>
 /// `WriteFault` comes only where the count of faults rose, and a prefix of the line is then written; `NoMemory` comes
 /// before anything is written.
 pub fn refuse<K: Sink>(alloc: Global, out: &mut K, refusal: &Refusal) -> Status
-    ensures told { result ≢ Status.WriteFault → result ≢ Status.NoMemory → (result ≡ status_of refusal.now) × Grew (K.written out.old) (K.written out.new) (line_of refusal.now) }
-    ensures part { result ≡ Status.WriteFault → GrewByPrefix (K.written out.old) (K.written out.new) (line_of refusal.now) × Rose (K.faults out.old) (K.faults out.new) }
+    ensures told { result ≢ Status.WriteFault → result ≢ Status.NoMemory
+        → (result ≡ status_of refusal.now) × Grew (K.written out.old) (K.written out.new) (line_of refusal.now) }
+    ensures part { result ≡ Status.WriteFault
+        → GrewByPrefix (K.written out.old) (K.written out.new) (line_of refusal.now)
+        × Rose (K.faults out.old) (K.faults out.new) }
     ensures memory { result ≡ Status.NoMemory → K.written out.new ≡ K.written out.old }
     ensures refused { result ≢ Status.Whole × result ≢ Status.ReadFault × result ≢ Status.Inexact }
     ensures kept { result ≢ Status.WriteFault → K.faults out.new ≡ K.faults out.old }

@@ -32,7 +32,8 @@ pub(crate) fn answer_of(alloc: Global, job: &Job, front: &Front) -> Result<Answe
     requires built { IsTrue (is_built job.now.mode) }
     requires input { IsInput (input_of job.now.mode job.now.input) front.now.plan.program front.now.input }
     ensures whole { IfOk result (λ a. a.status ≡ Whole) }
-    ensures told { IfOk result (λ a. spec.Tells job.now.mode front.now.plan.program front.now.plan.costs job.now.input a.status a.text.items) }
+    ensures told { IfOk result (λ a. let plan = front.now.plan in
+        spec.Tells job.now.mode plan.program plan.costs job.now.input a.status a.text.items) }
 {
     let plan = &front.plan;
     match job.mode {
@@ -60,7 +61,8 @@ fn whole(text: Vec<u8>) -> Answer
 
 fn run_text(alloc: Global, plan: &Plan, input: &Input) -> Result<Vec<u8>, NoMemory>
     requires { IsTrue (runs.fits plan.now.program input.now) }
-    ensures { IfOk result (λ text. text.items ≡ spec.run_line (ended plan.now.costs (runs.run plan.now.program input.now))) }
+    ensures { IfOk result (λ text. text.items
+        ≡ spec.run_line (ended plan.now.costs (runs.run plan.now.program input.now))) }
 {
     let end = run(alloc, plan.program(), plan.costs(), input)?;
     Ok(run_line(alloc, end)?)

@@ -66,7 +66,8 @@ fn answer_to<S: Shelf>(alloc: Global, job: &Job, shelf: &mut S) -> Result<Answer
 fn tell<K: Sink>(out: &mut K, answer: &Answer) -> Status
     requires { answer.now.status ≡ Status.Whole }
     ensures told { result ≡ Status.Whole → Grew (K.written out.old) (K.written out.new) answer.now.text.items }
-    ensures part { result ≡ Status.WriteFault → GrewByPrefix (K.written out.old) (K.written out.new) answer.now.text.items }
+    ensures part { result ≡ Status.WriteFault
+        → GrewByPrefix (K.written out.old) (K.written out.new) answer.now.text.items }
     ensures write_fault { result ≡ Status.WriteFault → Rose (K.faults out.old) (K.faults out.new) }
     ensures no_write_fault { result ≢ Status.WriteFault → K.faults out.new ≡ K.faults out.old }
     ensures later { K.faults out.old ≤ K.faults out.new }
@@ -96,14 +97,14 @@ fn refuse_words<K: Sink>(out: &mut K) -> Status
 /// refusal. It takes no lock, and returns.
 ///
 /// The modes are `bound`, which writes the optimum of implicit path enumeration (Li and Malik), which no run exceeds;
-/// `ipet`, which writes how many block copies there are and the optimum; `blocks`, which writes each block with its cost;
-/// `run`, which writes how the run on the input ends; and `print`, which writes the program. Without a table each block
-/// costs 1.
+/// `ipet`, which writes how many block copies there are and the optimum; `blocks`, which writes each block with its
+/// cost; `run`, which writes how the run on the input ends; and `print`, which writes the program. Without a table each
+/// block costs 1.
 ///
-/// The order of work, and so of refusals, is: the program's bytes and their size; its tokens; its unit; its names, kinds
-/// and bounds; the input of a run; the table's bytes and their size; the table's costs; the limits of the flat graph; and
-/// a fault of the sink. A fault of the shelf stands where its file is read. Want of memory may come before any of them.
-/// The clauses that speak of texts hold where the shelf tells its contents.
+/// The order of work, and so of refusals, is: the program's bytes and their size; its tokens; its unit; its names,
+/// kinds and bounds; the input of a run; the table's bytes and their size; the table's costs; the limits of the flat
+/// graph; and a fault of the sink. A fault of the shelf stands where its file is read. Want of memory may come before
+/// any of them. The clauses that speak of texts hold where the shelf tells its contents.
 pub fn plain_mode<S: Shelf, K: Sink>(
     alloc: Global,
     job: &Job,
@@ -123,8 +124,8 @@ pub fn plain_mode<S: Shelf, K: Sink>(
     ensures no_read_fault { result ≢ Status.ReadFault → S.faults shelf.new ≡ S.faults shelf.old }
     ensures no_write_fault { result ≢ Status.WriteFault → K.faults out.new ≡ K.faults out.old }
 
-    // Each line with a bound N that was written whole, at whatever status, is above every run of every program and costs
-    // that the texts give.
+    // Each line with a bound N that was written whole, at whatever status, is above every run of every program and
+    // costs that the texts give.
     ensures bounds { (n : ℕ) (p : Tree) (t : Table) → IsSome (S.contents shelf.old) → n < 2 ^ 128
         → WroteBound job.now.mode n (K.written out.old) (K.written out.new)
         → Give job.now (S.contents shelf.old) p t → Above p t n }
@@ -164,11 +165,11 @@ pub fn plain_mode<S: Shelf, K: Sink>(
 }
 
 /// Does all that the program does: reads the words, and does the job that they ask for, as `plain_mode` does; or writes
-/// that they are refused, where they ask for none. Want of memory may come before that. `rt` and `gate` are for modes with
-/// workers, of which there is none today; so this call owes no return by its contract.
+/// that they are refused, where they ask for none. Want of memory may come before that. `rt` and `gate` are for modes
+/// with workers, of which there is none today; so this call owes no return by its contract.
 ///
-/// The words are `MODE FILE`, and then, where they are given, `--costs NAME`, `--entry NAME` and `--input TEXT`, in this
-/// order. The entry is `main` where none is named, and the input is empty where none is given.
+/// The words are `MODE FILE`, and then, where they are given, `--costs NAME`, `--entry NAME` and `--input TEXT`, in
+/// this order. The entry is `main` where none is named, and the input is empty where none is given.
 pub fn wcet_main<R: Threads + Wait + Sync, S: Shelf, K: Sink, G: Gate + Sync>(
     _rt: &R,
     alloc: Global,
@@ -178,7 +179,8 @@ pub fn wcet_main<R: Threads + Wait + Sync, S: Shelf, K: Sink, G: Gate + Sync>(
     _gate: &G,
 ) -> Status
     // Words ask for one job at most.
-    ensures one_job { (a b : Job) → AskFor (map (λ w. w.now) words.now) a → AskFor (map (λ w. w.now) words.now) b → a ≡ b }
+    ensures one_job { (a b : Job) → AskFor (map (λ w. w.now) words.now) a
+        → AskFor (map (λ w. w.now) words.now) b → a ≡ b }
 
     // What each status says of what was written; before want of memory that is nothing.
     ensures wrote { (job : Job) → AskFor (map (λ w. w.now) words.now) job
@@ -193,8 +195,8 @@ pub fn wcet_main<R: Threads + Wait + Sync, S: Shelf, K: Sink, G: Gate + Sync>(
     ensures no_read_fault { result ≢ Status.ReadFault → S.faults shelf.new ≡ S.faults shelf.old }
     ensures no_write_fault { result ≢ Status.WriteFault → K.faults out.new ≡ K.faults out.old }
 
-    // Each line with a bound N that was written whole, at whatever status, is above every run of every program and costs
-    // that the texts give.
+    // Each line with a bound N that was written whole, at whatever status, is above every run of every program and
+    // costs that the texts give.
     ensures bounds { (job : Job) (n : ℕ) (p : Tree) (t : Table) → AskFor (map (λ w. w.now) words.now) job
         → IsSome (S.contents shelf.old) → n < 2 ^ 128
         → WroteBound job.mode n (K.written out.old) (K.written out.new)

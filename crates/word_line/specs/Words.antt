@@ -59,7 +59,8 @@ pub record AskFor (words : List (List ℕ)) (job : Job) : Type 0 where
   pub costs : Option (List ℕ)
   pub entry : Option (List ℕ)
   pub input : Option (List ℕ)
-  pub spelled : words ≡ word ∷ file ∷ (named (codes "--costs") costs ++ (named (codes "--entry") entry ++ named (codes "--input") input))
+  pub spelled : words ≡ word ∷ file
+      ∷ (named (codes "--costs") costs ++ (named (codes "--entry") entry ++ named (codes "--input") input))
   pub of_mode : mode_of word ≡ Some mode
   pub no_flags : NoDash file × IfSome costs NoFlag × IfSome entry NoFlag × IfSome input NoFlag
   pub of_job : job ≡ asked mode file costs entry input

@@ -35,10 +35,10 @@ pub fn one_job()
     ensures { (words : List (List ℕ)) (a b : Job) → AskFor words a → AskFor words b → a ≡ b }
 {}
 
-/// The job that the words ask for: `MODE FILE`, and then `--costs NAME`, `--entry NAME` and `--input TEXT`, each of which
-/// may be missing, in this order. The mode is one that is built, the name of the file does not begin with `-`, and no value
-/// is one that the field's parsers of words take for a flag: one that begins with `-` and goes on. `Refused` comes exactly
-/// where they ask for none; `NoMemory` may come in place of any answer.
+/// The job that the words ask for: `MODE FILE`, and then `--costs NAME`, `--entry NAME` and `--input TEXT`, each of
+/// which may be missing, in this order. The mode is one that is built, the name of the file does not begin with `-`, and
+/// no value is one that `clap` takes for a flag: one that begins with `-` and goes on. `Refused` comes exactly where they
+/// ask for no job; `NoMemory` may come in place of any answer.
 #[tactic(auto, using(crate::proofs::Wording::is_asked, crate::proofs::Wording::none_asked))]
 pub fn words(alloc: Global, words: &[&str]) -> Result<Job, WordFault>
     ensures asked { IfOk result (λ job. AskFor (map (λ w. w.now) words.now) job) }
@@ -78,7 +78,8 @@ fn job(
     entry: Option<&str>,
     input: Option<&str>,
 ) -> Result<Job, AllocError>
-    ensures { IfOk result (λ job. job ≡ asked mode file.now (option_copied costs.entry) (option_copied entry.entry) (option_copied input.entry)) }
+    ensures { IfOk result (λ job. job
+        ≡ asked mode file.now (option_copied costs.entry) (option_copied entry.entry) (option_copied input.entry)) }
 {
     Ok(Job {
         mode,
