@@ -2,10 +2,10 @@
 
 ghost use Rattle.std.specs.Prelude.{◌≡◌, IfOk, Some, None, []};
 ghost use Rattle.c_tree.specs.Constants as spec;
-ghost use Rattle.c_tree.specs.Expressions.{val, type_of, bin_ty, un_ty, chosen};
+ghost use Rattle.c_tree.specs.Expressions.{val, type_of, chosen};
 
-use c_semantics::{common, convert, is_true, of_word, operated, unary};
-use c_tree::{BinOp, NoMemory, RawExpr, RawShape, Ty, UnOp, Value};
+use c_semantics::{bin_ty, common, convert, is_true, of_word, operated, un_ty, unary};
+use c_tree::{NoMemory, RawExpr, RawShape, Ty, Value};
 use sqlite_items::Items;
 
 /// The place of the first token of an expression.
@@ -38,42 +38,6 @@ fn has_name(e: &RawExpr) -> bool
         RawExpr::Bin(_, a, b) => has_name(a.get()) || has_name(b.get()),
         RawExpr::Cond(c, a, b) => has_name(c.get()) || has_name(a.get()) || has_name(b.get()),
         RawExpr::Paren(_, a) => has_name(a.get()),
-    }
-}
-
-fn un_ty(op: UnOp, ty: Ty) -> Ty
-    ensures { result ≡ un_ty op ty }
-{
-    match op {
-        UnOp::Plus => ty,
-        UnOp::Minus => ty,
-        UnOp::Flip => ty,
-        UnOp::Not => Ty::Int,
-    }
-}
-
-fn bin_ty(op: BinOp, a: Ty, b: Ty) -> Ty
-    ensures { result ≡ bin_ty op a b }
-{
-    match op {
-        BinOp::Mul => common(a, b),
-        BinOp::Div => common(a, b),
-        BinOp::Rem => common(a, b),
-        BinOp::Add => common(a, b),
-        BinOp::Sub => common(a, b),
-        BinOp::Shl => a,
-        BinOp::Shr => a,
-        BinOp::Lt => Ty::Int,
-        BinOp::Gt => Ty::Int,
-        BinOp::Le => Ty::Int,
-        BinOp::Ge => Ty::Int,
-        BinOp::Eq => Ty::Int,
-        BinOp::Ne => Ty::Int,
-        BinOp::And => common(a, b),
-        BinOp::Xor => common(a, b),
-        BinOp::Or => common(a, b),
-        BinOp::Both => Ty::Int,
-        BinOp::Either => Ty::Int,
     }
 }
 

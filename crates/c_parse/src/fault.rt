@@ -1,7 +1,5 @@
 //! Why nothing was read.
 
-use std::alloc::AllocError;
-
 /// Why a text has no tree.
 #[derive(Clone, Copy, Debug, PartialEq, Eq)]
 pub enum ParseFault {
@@ -11,15 +9,4 @@ pub enum ParseFault {
     Depth { at: u32 },
     /// Memory was wanting. It may come in place of any other answer.
     NoMemory,
-}
-
-impl From<AllocError> for ParseFault {
-    ghost use Rattle.std.specs.Prelude.{◌≡◌};
-    ghost use Rattle.c_parse.specs.declared.fault.ParseFault.TheVariants.{NoMemory};
-
-    ghost from_gives = { λ _ e. e ≡ NoMemory };
-
-    fn from(_: AllocError) -> ParseFault {
-        ParseFault::NoMemory
-    }
 }

@@ -1,54 +1,10 @@
 //! The text of expressions (C11 6.5).
 
-ghost use Rattle.std.specs.Prelude.{◌≡◌, ◌≤◌, ◌++◌, OnOk, codes, flat_map};
-ghost use Rattle.c_tree.specs.SpelledExpressions.{level};
-ghost use Rattle.print_laws.specs.PrintedExpressions.{joined, strength, expr_text, operand_text};
+ghost use Rattle.std.specs.Prelude.{◌≡◌, ◌++◌, OnOk, codes, flat_map};
+ghost use Rattle.print_laws.specs.PrintedExpressions.{joined, expr_text, operand_text};
 
-use crate::parts::{bin_text, push, push_name, push_number, type_text, un_text};
-use c_tree::{BinOp, Expr, Func, NoMemory, Program};
-
-// The level of a binary operator.
-fn level(op: BinOp) -> u32
-    ensures value { result ≡ level op }
-    ensures most { result ≤ 10 }
-{
-    match op {
-        BinOp::Either => 1,
-        BinOp::Both => 2,
-        BinOp::Or => 3,
-        BinOp::Xor => 4,
-        BinOp::And => 5,
-        BinOp::Eq => 6,
-        BinOp::Ne => 6,
-        BinOp::Lt => 7,
-        BinOp::Gt => 7,
-        BinOp::Le => 7,
-        BinOp::Ge => 7,
-        BinOp::Shl => 8,
-        BinOp::Shr => 8,
-        BinOp::Add => 9,
-        BinOp::Sub => 9,
-        BinOp::Mul => 10,
-        BinOp::Div => 10,
-        BinOp::Rem => 10,
-    }
-}
-
-// How tightly an expression holds together: as the levels of the grammar, but a cast more tightly than a unary operator, so that
-// no unary operator stands right before another.
-fn strength(expr: &Expr) -> u32
-    ensures { result ≡ strength expr.now }
-{
-    match expr {
-        Expr::Cond(_, _, _) => 0,
-        Expr::Bin(op, _, _) => level(*op),
-        Expr::Un(_, _) => 11,
-        Expr::Cast(_, _) => 12,
-        Expr::Elem(_, _) => 13,
-        Expr::Name(_) => 13,
-        Expr::Num(_, _) => 13,
-    }
-}
+use c_tree::{Expr, Func, NoMemory, Program};
+use print_words::{bin_text, level, push, push_name, push_number, strength, type_text, un_text};
 
 // An operand, in parentheses where it holds less tightly than asked.
 #[cycle(exprs)]

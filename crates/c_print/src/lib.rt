@@ -2,7 +2,6 @@
 #![tactic(auto)]
 
 mod exprs;
-mod parts;
 mod printing;
 mod simple;
 mod stmts;

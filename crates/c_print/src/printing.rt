@@ -5,14 +5,13 @@ ghost use Rattle.c_tree.specs.declared.unit.Unit.{Unit as Tree};
 ghost use Rattle.c_tree.specs.Checked.{IsSpelled};
 ghost use Rattle.c_tree.specs.Refusals.{Typed};
 ghost use Rattle.print_laws.specs.Again.{IsReadAs};
-ghost use Rattle.print_laws.specs.PrintedExpressions.{value_text, joined};
-ghost use Rattle.print_laws.specs.PrintedStatements.{list_text};
-ghost use Rattle.print_laws.specs.Printed.{outer_text, initial_text, global_text, result_text, param_text, params_text, head_text, func_text, printed};
+ghost use Rattle.print_laws.specs.PrintedExpressions.{joined};
+ghost use Rattle.print_laws.specs.Printed.{global_text, result_text, param_text, params_text, head_text, func_text, printed};
 
-use crate::parts::{push, push_declared, push_value, type_text};
 use crate::stmts::push_block;
 use c_tree::{Func, Global as Outside, Local, NoMemory, Program, Ty};
 use print_laws::law::printed_programs_are_read_again;
+use print_words::{push, push_declared, push_global, type_text};
 use std::alloc::Global;
 use typed_laws::program_is_typed;
 
@@ -48,53 +47,6 @@ fn push_globals(text: &mut Vec<u8>, globals: &[Outside]) -> Result<(), NoMemory>
 {
     for global in globals {
         push_global(text, global)?;
-    }
-    Ok(())
-}
-
-#[tactic(auto, unfolding(print_laws::specs::Printed::global_text, print_laws::specs::Printed::outer_text))]
-fn push_global(text: &mut Vec<u8>, global: &Outside) -> Result<(), NoMemory>
-    ensures { OnOk result (text.new.items ≡ text.old.items ++ global_text global.now) }
-{
-    if global.outer {
-        push(text, b"extern ")?;
-    }
-    push_declared(text, global.ty, global.name.as_slice(), global.length)?;
-    push_initial(text, global.ty, global.length, global.values.as_slice())?;
-    push(text, b";\n")
-}
-
-// The initialiser of a global of this type and length.
-#[tactic(auto, unfolding(print_laws::specs::Printed::initial_text, print_laws::specs::PrintedStatements::list_text, print_laws::specs::PrintedExpressions::joined))]
-fn push_initial(
-    text: &mut Vec<u8>,
-    ty: Ty,
-    length: Option<u32>,
-    values: &[i64],
-) -> Result<(), NoMemory>
-    ensures { OnOk result (text.new.items ≡ text.old.items ++ initial_text ty length values.now) }
-{
-    let Some((first, rest)) = values.split_first() else {
-        return Ok(());
-    };
-    push(text, b" = ")?;
-    match length {
-        None => push_value(text, ty, *first),
-        Some(_) => {
-            push(text, b"{")?;
-            push_value(text, ty, *first)?;
-            push_more_values(text, ty, rest)?;
-            push(text, b"}")
-        }
-    }
-}
-
-fn push_more_values(text: &mut Vec<u8>, ty: Ty, values: &[i64]) -> Result<(), NoMemory>
-    ensures { OnOk result (text.new.items ≡ text.old.items ++ flat_map (λ z. codes ", " ++ value_text ty z) values.now) }
-{
-    for value in values {
-        push(text, b", ")?;
-        push_value(text, ty, *value)?;
     }
     Ok(())
 }

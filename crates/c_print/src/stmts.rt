@@ -5,20 +5,10 @@ ghost use Rattle.print_laws.specs.PrintedExpressions.{expr_text};
 ghost use Rattle.print_laws.specs.PrintedStatements.{line, bound_text, for_text, simple_text, stmt_text, stmts_text, otherwise_text, part_text};
 
 use crate::exprs::push_expr;
-use crate::parts::{push, push_decimal, push_margin};
 use crate::simple::push_simple;
 use c_tree::{Expr, Func, NoMemory, Program, Stmt};
+use print_words::{push, push_bound, push_line, push_margin};
 use sqlite_items::Boxed;
-
-// A line at a level.
-#[tactic(auto, unfolding(print_laws::specs::PrintedStatements::line))]
-fn push_line(text: &mut Vec<u8>, level: usize, bytes: &[u8]) -> Result<(), NoMemory>
-    ensures { OnOk result (text.new.items ≡ text.old.items ++ line level bytes.now) }
-{
-    push_margin(text, level)?;
-    push(text, bytes)?;
-    push(text, b"\n")
-}
 
 // A line at a level in which an expression stands.
 #[tactic(auto, unfolding(print_laws::specs::PrintedStatements::line))]
@@ -53,16 +43,6 @@ fn push_simple_line(
     push_margin(text, level)?;
     push_simple(text, program, func, stmt)?;
     push(text, b";\n")
-}
-
-// The line of a loop's bound, which stands at its beginning.
-#[tactic(auto, unfolding(print_laws::specs::PrintedStatements::bound_text))]
-fn push_bound(text: &mut Vec<u8>, bound: u32) -> Result<(), NoMemory>
-    ensures { OnOk result (text.new.items ≡ text.old.items ++ bound_text bound) }
-{
-    push(text, b"#pragma loopbound ")?;
-    push_decimal(text, u64::from(bound))?;
-    push(text, b"\n")
 }
 
 // The initialiser or the step of a `for`.

@@ -21,7 +21,7 @@ use Rattle.c_tree.specs.Runs.{result_of, back}
 use Rattle.c_tree.specs.Claims.{cost, block_cost}
 use Rattle.c_run.specs.declared.run_end.RunEnd.{RunEnd}
 use Rattle.c_run.specs.declared.run_end.RunEnd.TheVariants as end
-use Rattle.c_steps.specs.declared.loops.Loop.{Loop}
+use Rattle.c_ways.specs.declared.loops.Loop.{Loop}
 use Rattle.c_run.specs.declared.machine.Pending.{Pending}
 use Rattle.c_run.specs.declared.machine.Pending.TheVariants as pending
 use Rattle.c_run.specs.Machine.{costed, dearer, over, step_of, turns_of, turns, entering, do_test, behind, finished, state}

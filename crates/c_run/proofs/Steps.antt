@@ -15,12 +15,12 @@ use Rattle.c_tree.specs.Blocks.{list_blocks, is_simple}
 use Rattle.c_tree.specs.Statements.{Callee, Back, Gives, Lost, Outcome, Ends, Undefined, OverBound, after, then_do, turn_do, block, while_turns, entered, stored, simple, come_back, list_exec, exec, held}
 use Rattle.c_tree.specs.Runs.{back}
 use Rattle.c_tree.specs.Claims.{block_cost}
-use Rattle.c_steps.specs.declared.loops.Loop.{Loop}
+use Rattle.c_ways.specs.declared.loops.Loop.{Loop}
 use Rattle.c_run.specs.declared.machine.Task.{Task}
 use Rattle.c_run.specs.declared.machine.Pending.{Pending}
 use Rattle.c_run.specs.declared.machine.Machine.{Machine}
 use Rattle.c_run.specs.declared.machine.Given.{Given}
-use Rattle.c_steps.specs.Ways.{goes_on, past, returned}
+use Rattle.c_ways.specs.Ways.{goes_on, past, returned}
 use Rattle.c_run.specs.Machine.{Waits, turns_of, turns, doing, behind, onward, state, ends_as, remains}
 use Rattle.c_run.specs.Work.{list_work, while_work, do_work, turn_work, task_work, pending_work, waiting_work, waiting, left}
 use Rattle.c_run.proofs.Remains.{state_entered, state_pushed}

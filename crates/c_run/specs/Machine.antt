@@ -20,8 +20,8 @@ use Rattle.c_tree.specs.Runs.{entry_slots, back, callee, callees}
 use Rattle.c_tree.specs.Claims.{cost}
 use Rattle.c_run.specs.declared.run_end.RunEnd.{RunEnd}
 use Rattle.c_run.specs.declared.run_end.RunEnd.TheVariants as end
-use Rattle.c_steps.specs.declared.loops.Loop.{Loop}
-use Rattle.c_steps.specs.declared.loops.DoLoop.{DoLoop}
+use Rattle.c_ways.specs.declared.loops.Loop.{Loop}
+use Rattle.c_ways.specs.declared.loops.DoLoop.{DoLoop}
 use Rattle.c_run.specs.declared.machine.Task.{Task}
 use Rattle.c_run.specs.declared.machine.Task.TheVariants as task
 use Rattle.c_run.specs.declared.machine.Pending.{Pending}

@@ -3,8 +3,8 @@ use Rattle.std.specs.Prelude.{ℕ, ◌+◌, ◌*◌, List, [], ◌∷◌, ◌++�
 use Rattle.c_tree.specs.declared.tree.Stmt.{Stmt, Row_of-Stmt, end_of-Stmt, more_of-Stmt, Held-Stmt-For-1, None', Some'}
 use Rattle.c_tree.specs.declared.tree.Stmt.TheVariants.{Empty, Scalar, Array, Assign, Call, Break, Continue, Return, If', While', Do', For', Group'}
 use Rattle.c_tree.specs.declared.program.Func.{Func}
-use Rattle.c_steps.specs.declared.loops.Loop.{Loop}
-use Rattle.c_steps.specs.declared.loops.DoLoop.{DoLoop}
+use Rattle.c_ways.specs.declared.loops.Loop.{Loop}
+use Rattle.c_ways.specs.declared.loops.DoLoop.{DoLoop}
 use Rattle.c_run.specs.declared.machine.Task.{Task}
 use Rattle.c_run.specs.declared.machine.Task.TheVariants as task
 use Rattle.c_run.specs.declared.machine.Pending.{Pending}

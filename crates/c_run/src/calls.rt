@@ -8,8 +8,9 @@ ghost use Rattle.c_run.specs.Machine.{remains, ends_as, ComesTo, calling, called
 ghost use Rattle.c_run.specs.Work.{work_at, efforts, waiting, left, callee_work, work_behind};
 
 use crate::machine::{Given, Machine, Pending, Task};
-use c_steps::{all_values, entry_slots, returned, unset_target, with_block};
+use c_steps::all_values;
 use c_tree::{Expr, Func, NoMemory, Program, Target, Value, Var, Way};
+use c_ways::{entry_slots, returned, unset_target, with_block};
 
 impl<'a> Machine<'a> {
     /// A call.

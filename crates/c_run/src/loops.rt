@@ -7,8 +7,9 @@ ghost use Rattle.c_run.specs.Machine.{turns, remains, ComesTo, entering_loop, be
 ghost use Rattle.c_run.specs.Work.{waiting, left, begun_work, work_behind};
 
 use crate::machine::{Given, Machine, Pending, Task};
-use c_steps::{DoLoop, Loop, condition, goes_on, past, plus, with_block};
+use c_steps::condition;
 use c_tree::{NoMemory, Stmt, Way};
+use c_ways::{DoLoop, Loop, goes_on, past, plus, with_block};
 use sqlite_items::Boxed;
 
 impl<'a> Machine<'a> {

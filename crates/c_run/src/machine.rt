@@ -6,8 +6,8 @@ ghost use Rattle.c_run.specs.Machine.{Waits, is_work, remains};
 ghost use Rattle.c_run.specs.Work.{left};
 
 use crate::run_end::RunEnd;
-use c_steps::{DoLoop, Loop, Memory};
 use c_tree::{Costs, NoMemory, Program, Slot, Stmt, Target, Ty, Way};
+use c_ways::{DoLoop, Loop, Memory};
 use std::alloc::Global;
 
 /// What a run is made of, and where it takes memory from.

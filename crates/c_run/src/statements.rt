@@ -8,11 +8,12 @@ ghost use Rattle.c_run.specs.Work.{waiting, left, choice_work};
 
 use crate::machine::{Given, Machine, Pending, Task};
 use c_semantics::is_simple;
-use c_steps::{
-    condition, do_loop, for_loop, held_blocks, list_blocks, plus, simple, stmt_blocks, value,
-    while_loop, with_block, with_run,
-};
+use c_steps::{condition, simple, value};
 use c_tree::{Expr, NoMemory, Stmt, Way};
+use c_ways::{
+    do_loop, for_loop, held_blocks, list_blocks, plus, stmt_blocks, while_loop, with_block,
+    with_run,
+};
 
 impl<'a> Machine<'a> {
     /// A list of statements.

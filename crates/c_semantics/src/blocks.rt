@@ -1,6 +1,7 @@
 //! Which statements are simple, and how many blocks a list has.
 
-ghost use Rattle.std.specs.Prelude.{◌≡◌, ◌+◌, false, IfSome};
+ghost use Rattle.std.specs.Prelude.{◌≡◌, ◌+◌, ◌<◌, ◌^◌, false};
+ghost use Rattle.std.specs.Option.{SomeIff};
 ghost use Rattle.c_tree.specs.Blocks.{is_simple, begun, blocks, list_blocks};
 ghost use Rattle.c_tree.specs.Statements.{held};
 
@@ -27,7 +28,7 @@ fn begun(goes_on: bool) -> usize
 
 // How many a `for` has: those of its initialiser, its condition, its step and its body.
 fn for_blocks(initialiser: usize, step: usize, body: usize) -> Option<usize>
-    ensures { IfSome result (λ count. count ≡ initialiser + 1 + step + body) }
+    ensures { SomeIff result (initialiser + 1 + step + body < 2 ^ 64) (initialiser + 1 + step + body) }
 {
     initialiser
         .checked_add(1)?
@@ -39,7 +40,7 @@ fn for_blocks(initialiser: usize, step: usize, body: usize) -> Option<usize>
 #[cycle(blocks)]
 #[tactic(auto, using(c_tree::proofs::ExecLayers::exec_layers))]
 fn blocks(stmt: &Stmt, goes_on: bool) -> Option<usize>
-    ensures { IfSome result (λ count. count ≡ blocks stmt.now goes_on) }
+    ensures { SomeIff result (blocks stmt.now goes_on < 2 ^ 64) (blocks stmt.now goes_on) }
 {
     match stmt {
         Stmt::Empty | Stmt::Scalar(_, _) | Stmt::Array(_, _) | Stmt::Assign(_, _, _) => {
@@ -63,7 +64,7 @@ fn blocks(stmt: &Stmt, goes_on: bool) -> Option<usize>
 // The same of an initialiser or a step.
 #[cycle(blocks)]
 fn held_blocks(stmt: &Option<Boxed<Stmt>>) -> Option<usize>
-    ensures { IfSome result (λ count. count ≡ list_blocks (held stmt.now) false) }
+    ensures { SomeIff result (list_blocks (held stmt.now) false < 2 ^ 64) (list_blocks (held stmt.now) false) }
 {
     match stmt {
         None => Some(0),
@@ -72,10 +73,10 @@ fn held_blocks(stmt: &Option<Boxed<Stmt>>) -> Option<usize>
 }
 
 /// How many blocks a list of statements has (C11 6.8): runs of simple statements, controlling expressions, initialisers and
-/// steps of a `for`, calls and jumps. None where a `usize` does not hold the number.
+/// steps of a `for`, calls and jumps. None exactly where a `usize` does not hold the number.
 #[cycle(blocks)]
 pub fn list_blocks(list: &[Stmt]) -> Option<usize>
-    ensures { IfSome result (λ count. count ≡ list_blocks list.now false) }
+    ensures { SomeIff result (list_blocks list.now false < 2 ^ 64) (list_blocks list.now false) }
 {
     let mut count = 0_usize;
     let mut goes_on = false;

@@ -5,9 +5,9 @@ ghost use Rattle.c_tree.specs.Values as values;
 ghost use Rattle.c_tree.specs.Stores as stores;
 ghost use Rattle.c_tree.specs.Expressions as spec;
 
-use crate::memory::{Memory, slot_ty};
-use c_semantics::{common, convert, is_true, of_word, operated, unary};
-use c_tree::{BinOp, Expr, Slot, Ty, UnOp, Value};
+use c_semantics::{bin_ty, common, convert, is_true, of_word, operated, un_ty, unary};
+use c_tree::{Expr, Slot, Ty, Value};
+use c_ways::{Memory, slot_ty};
 
 /// The number of a scalar.
 pub(crate) fn number_in(slot: Option<&Slot>) -> Option<Value>
@@ -46,23 +46,9 @@ fn type_of(e: &Expr, s: &Memory) -> Ty
         Expr::Num(ty, _) => *ty,
         Expr::Name(v) => slot_ty(s.slot(*v)),
         Expr::Elem(v, _) => slot_ty(s.slot(*v)),
-        Expr::Un(op, a) => match op {
-            UnOp::Not => Ty::Int,
-            _ => type_of(a.get(), s),
-        },
+        Expr::Un(op, a) => un_ty(*op, type_of(a.get(), s)),
         Expr::Cast(ty, _) => *ty,
-        Expr::Bin(op, a, b) => match op {
-            BinOp::Mul
-            | BinOp::Div
-            | BinOp::Rem
-            | BinOp::Add
-            | BinOp::Sub
-            | BinOp::And
-            | BinOp::Xor
-            | BinOp::Or => common(type_of(a.get(), s), type_of(b.get(), s)),
-            BinOp::Shl | BinOp::Shr => type_of(a.get(), s),
-            _ => Ty::Int,
-        },
+        Expr::Bin(op, a, b) => bin_ty(*op, type_of(a.get(), s), type_of(b.get(), s)),
         Expr::Cond(_, a, b) => common(type_of(a.get(), s), type_of(b.get(), s)),
     }
 }

@@ -1,16 +1,15 @@
 //! Simple statements: declarations without a call, and assignments (C11 6.7.9, 6.5.16).
 
 ghost use Rattle.std.specs.Prelude.{◌≡◌, option_copied, option_and_then, IfOk};
-ghost use Rattle.c_tree.specs.Values as values;
 ghost use Rattle.c_tree.specs.Stores as stores;
 ghost use Rattle.c_tree.specs.Expressions as expressions;
 ghost use Rattle.c_tree.specs.Statements as spec;
-ghost use Rattle.c_steps.specs.Changed.{changed};
+ghost use Rattle.c_ways.specs.Changed.{changed};
 
 use crate::expressions::{index, number_at, number_in, value};
-use crate::memory::{Memory, slot_ty};
-use c_semantics::{convert, operated, zero_of};
-use c_tree::{BinOp, Expr, NoMemory, Place, Slot, Stmt, Ty, Value, Var};
+use c_semantics::operated;
+use c_tree::{BinOp, Expr, NoMemory, Place, Slot, Stmt, Value, Var};
+use c_ways::{Memory, padded, slot_ty};
 use sqlite_items::Items;
 use std::alloc::Global;
 
@@ -83,33 +82,6 @@ pub fn all_values(
         values.push(v)?;
     }
     Ok(Some(values))
-}
-
-fn converted(alloc: Global, ty: Ty, from: &[Value]) -> Result<Items<Value>, NoMemory>
-    ensures { IfOk result (λ vs. vs ≡ values.converted ty from.now) }
-{
-    let mut list = Items::new(alloc);
-    for v in from {
-        list.push(convert(ty, *v))?;
-    }
-    Ok(list)
-}
-
-/// The numbers of an array of this length: the values converted, and 0 after them.
-pub(crate) fn padded(
-    alloc: Global,
-    ty: Ty,
-    length: usize,
-    values: &[Value],
-) -> Result<Items<Value>, NoMemory>
-    ensures { IfOk result (λ vs. vs ≡ stores.padded ty length values.now) }
-{
-    let mut list = converted(alloc, ty, values)?;
-    let missing = length.saturating_sub(values.len());
-    for _at in 0..missing {
-        list.push(zero_of(ty))?;
-    }
-    Ok(list)
 }
 
 fn array_length(slot: Option<&Slot>) -> usize

@@ -6,7 +6,7 @@ use Rattle.std.proofs.lemmas.Bool.Decides.{nat_tests}
 use Rattle.c_tree.specs.Characters.{begins, begins_with, is_blank, is_space_or_tab, is_line_feed, is_digit, is_nondigit}
 use Rattle.c_tree.specs.Lexemes.{is_among, marks, is_name, is_number_run, could_be_token}
 use Rattle.c_tree.specs.Lexing.{opens_block_comment, opens_line_comment, opens_directive}
-use Rattle.c_token.proofs.Fronts.{both_true, is_among-front, begins_mark, marks_begin}
+use Rattle.c_lexemes.proofs.Fronts.{both_true, is_among-front, begins_mark, marks_begin}
 
 -- ---- texts that begin with given bytes
 

@@ -1,13 +1,6 @@
 pub mod Answering
 pub mod Beginnings
-pub mod Comments
-pub mod Fronts
 pub mod Laws
-pub mod Lines
-pub mod LongestMatch
-pub mod MarkTable
-pub mod Numerals
-pub mod Operands
 pub mod Reaching
 pub mod Sizes
 pub mod Sorts

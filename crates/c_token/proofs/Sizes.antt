@@ -11,9 +11,9 @@ use Rattle.c_token.specs.declared.piece.Flaw.{Flaw}
 use Rattle.c_token.specs.declared.piece.Flaw.TheVariants.{Byte, Comment, Number, Directive}
 use Rattle.c_token.specs.Pieces.{IsFlaw, Stands, size_of}
 use Rattle.c_token.proofs.Beginnings.{front_fails, directive_begins}
-use Rattle.c_token.proofs.Comments.{closes_fits}
-use Rattle.c_token.proofs.LongestMatch.{no_token_empty}
-use Rattle.c_token.proofs.Operands.{operand_rest_le}
+use Rattle.c_lexemes.proofs.Comments.{closes_fits}
+use Rattle.c_lexemes.proofs.LongestMatch.{no_token_empty}
+use Rattle.c_lexemes.proofs.Operands.{operand_rest_le}
 
 -- a piece has a byte, and ends within the text
 pub record Fits (here : List ℕ) (n : ℕ) : Type 0 where

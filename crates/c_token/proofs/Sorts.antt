@@ -13,9 +13,10 @@ use Rattle.c_token.specs.declared.piece.Piece.{Piece}
 use Rattle.c_token.specs.declared.piece.Piece.TheVariants.{Gap, Lexeme}
 use Rattle.c_token.specs.declared.piece.Flaw.{Flaw}
 use Rattle.c_token.specs.declared.piece.Flaw.TheVariants.{Byte, Comment, Number, Directive}
-use Rattle.c_token.specs.Faults.{IsStrayByte, IsOpenComment, IsBadNumber, IsBadDirective}
+use Rattle.c_lexemes.specs.Unread.{IsOpenComment, IsBadNumber}
+use Rattle.c_token.specs.Faults.{IsStrayByte, IsBadDirective}
 use Rattle.c_token.specs.Pieces.{IsFlaw, Stands}
-use Rattle.c_token.proofs.Fronts.{both_true}
+use Rattle.c_lexemes.proofs.Fronts.{both_true}
 use Rattle.c_token.proofs.Beginnings.{block_no_blank, line_no_blank, not_both_comments, directive_is_hash, lexeme_no_blank, lexeme_no_directive, number_no_block_comment, number_no_line_comment, block_is_token, line_is_token}
 
 data Sort : Type 0 where

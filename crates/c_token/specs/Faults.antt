@@ -1,13 +1,9 @@
 -- What keeps a text from being tokens.
-use Rattle.std.specs.Prelude.{◌≡◌, ℕ, ◌<◌, ◌≤◌, true, false, List, length, take, drop, None}
+use Rattle.std.specs.Prelude.{◌≡◌, ℕ, ◌<◌, true, false, List, length, take, drop}
 use Rattle.c_tree.specs.declared.token.Token.{Token}
 use Rattle.c_tree.specs.Characters.{begins, is_blank}
-use Rattle.c_tree.specs.Lexemes.{could_be_token, is_number_run, kind_of}
-use Rattle.c_tree.specs.Lexing.{IsLongest, opens_block_comment, closes_at, opens_directive, directive_of, is_skipped, is_bound_line, Reaches}
-
--- no front of the bytes could constitute a token
-abbrev pub HasNoToken : List ℕ → Type 0
-HasNoToken here = (n : ℕ) → n ≤ length here → could_be_token (take n here) ≡ false
+use Rattle.c_tree.specs.Lexing.{opens_directive, directive_of, is_skipped, is_bound_line, Reaches}
+use Rattle.c_lexemes.specs.Unread.{HasNoToken, IsOpenComment, IsBadNumber}
 
 -- nothing begins here: no token, no blank, no comment (it would begin with the mark `/`), no line of `#`
 pub record IsStrayByte (before here : List ℕ) : Type 0 where
@@ -15,18 +11,6 @@ pub record IsStrayByte (before here : List ℕ) : Type 0 where
   pub no_blank : begins is_blank here ≡ false
   pub no_directive : opens_directive before here ≡ false
   pub no_token : HasNoToken here
-
--- `/*` with no `*/` behind it
-pub record IsOpenComment (here : List ℕ) : Type 0 where
-  pub opens : opens_block_comment here ≡ true
-  pub open_ : (k : ℕ) → closes_at (drop 2 here) k ≡ false
-
--- a number run that is no constant of the profile
-pub record IsBadNumber (here : List ℕ) : Type 0 where
-  pub n : ℕ
-  pub longest : IsLongest here n
-  pub number : is_number_run (take n here) ≡ true
-  pub none : kind_of (take n here) ≡ None
 
 -- a line of `#` that is none of the permitted ones
 pub record IsBadDirective (before here : List ℕ) : Type 0 where

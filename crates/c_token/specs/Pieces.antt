@@ -9,7 +9,8 @@ use Rattle.c_token.specs.declared.piece.Flaw.{Flaw}
 use Rattle.c_token.specs.declared.piece.Flaw.TheVariants.{Byte, Comment, Number, Directive}
 use Rattle.c_token.specs.declared.fault.TokenFault.{TokenFault}
 use Rattle.c_token.specs.declared.fault.TokenFault.TheVariants as faults
-use Rattle.c_token.specs.Faults.{IsStrayByte, IsOpenComment, IsBadNumber, IsBadDirective}
+use Rattle.c_lexemes.specs.Unread.{IsOpenComment, IsBadNumber}
+use Rattle.c_token.specs.Faults.{IsStrayByte, IsBadDirective}
 
 -- what is true where a piece is found
 abbrev pub IsPiece : List ℕ → List ℕ → Piece → Type 0

@@ -6,16 +6,10 @@
 //! 2 MB, text included, and as many `;`, each a token of 24 bytes, within 0.2 seconds and 27 MB.
 #![tactic(auto)]
 
-mod character;
-mod comment;
-mod constant;
-mod directive;
 mod fault;
 mod law;
-mod lexeme;
 mod piece;
 mod scanner;
-mod table;
 
 pub use c_tree::{Kind, Token};
 pub use fault::TokenFault;

@@ -4,10 +4,10 @@ ghost use Rattle.std.specs.Prelude.{◌≡◌, ◌<◌, ℕ, List, true, length}
 ghost use Rattle.c_tree.specs.Lexing as lexing;
 ghost use Rattle.c_token.specs.Pieces.{Stands, IsOther, size_of};
 
-use crate::character::is_blank;
-use crate::comment::{block_comment_length, line_of, opens_block_comment, opens_line_comment};
-use crate::directive::{Directive, directive_of, opens_directive, read_directive};
-use crate::lexeme::{kind_of, lexeme_length};
+use c_lexemes::{
+    Directive, block_comment_length, directive_of, is_blank, kind_of, lexeme_length, line_of,
+    opens_block_comment, opens_directive, opens_line_comment, read_directive,
+};
 use c_tree::Kind;
 
 /// What stands at a place, with its length.
@@ -87,7 +87,7 @@ fn read_line(here: &[u8]) -> Result<Piece, Flaw>
     }
 }
 
-#[tactic(auto, using(crate::proofs::LongestMatch::no_constant))]
+#[tactic(auto, using(c_lexemes::proofs::LongestMatch::no_constant))]
 fn read_lexeme(here: &[u8]) -> Result<Piece, Flaw>
     requires { 0 < length here.now }
     ensures { (before : List ℕ) → IsOther before here.now → Stands before here.now result }

@@ -2,6 +2,7 @@
 
 use crate::formula::{blasted, compared, decoded};
 use crate::gates::{satisfies, values_at};
+use crate::solutions::{Found, searched_for};
 use bit_blast::Blasted;
 use case_lines::{is_heading, on_one_line, parts};
 use cnf_form::{Assignment, write_cnf};
@@ -29,8 +30,39 @@ fn answer(alloc: Global, line: &str) -> Result<String, Wrong> {
             read_by(alloc, &blasted(alloc, inputs, terms, conditions)?, values)
         }
         ["holds", name, lists] => each_holds(alloc, name, lists),
+        ["solve", inputs, terms, conditions, limit] => {
+            told_found(
+                alloc,
+                searched_for(alloc, inputs, terms, conditions, limit)?,
+            )
+        }
+        ["verdict", inputs, terms, conditions, limit] => {
+            told_verdict(
+                alloc,
+                searched_for(alloc, inputs, terms, conditions, limit)?,
+            )
+        }
         _ => Err(Wrong::NoCase),
     }
+}
+
+// What a search came to, with the numbers of the input.
+fn told_found(alloc: Global, found: Found) -> Result<String, Wrong> {
+    match found {
+        Found::Solution(numbers) => Ok(format!(in alloc; "solution {numbers:?}")?),
+        other => told_verdict(alloc, other),
+    }
+}
+
+// What a search came to, without the numbers.
+fn told_verdict(alloc: Global, found: Found) -> Result<String, Wrong> {
+    let text = match found {
+        Found::Solution(_) => "solution",
+        Found::Unfit => "unfit",
+        Found::NoSolution => "no solution",
+        Found::GaveUp => "gave up",
+    };
+    Ok(text.to_string(alloc)?)
 }
 
 // The text of a formula.

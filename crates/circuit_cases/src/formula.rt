@@ -17,11 +17,17 @@ pub(crate) fn blasted(
     text: &str,
     conditions: &str,
 ) -> Result<Blasted, Wrong> {
+    let terms = terms_of(alloc, inputs, text)?;
+    let conditions = numbers(alloc, conditions)?;
+    blasted_of(alloc, &terms, conditions.as_slice())
+}
+
+/// A store of terms over inputs.
+pub(crate) fn terms_of(alloc: Global, inputs: &str, text: &str) -> Result<Terms, Wrong> {
     let mut terms = Terms::new(alloc);
     declared(alloc, &mut terms, inputs)?;
     put_each(alloc, &mut terms, text)?;
-    let conditions = numbers(alloc, conditions)?;
-    blasted_of(alloc, &terms, conditions.as_slice())
+    Ok(terms)
 }
 
 /// The formula that the operator of this name, over so many inputs but the last, equals the last.
@@ -49,8 +55,8 @@ fn blasted_of(alloc: Global, terms: &Terms, conditions: &[u32]) -> Result<Blaste
     }
 }
 
-// Whether each of these is the number of a term.
-fn are_terms(terms: &Terms, numbers: &[u32]) -> bool
+/// Whether each of these is the number of a term.
+pub(crate) fn are_terms(terms: &Terms, numbers: &[u32]) -> bool
     ensures { IsTrue result ↔ All (λ t. t < length terms.now.ops) numbers.now }
 {
     let count = terms.len();
@@ -71,8 +77,8 @@ pub(crate) fn decoded(
     Ok(Vec::from_slice(alloc, input.values.as_slice())?)
 }
 
-// An input of so many zeros.
-fn zeros(alloc: Global, count: usize) -> Result<Input, Wrong>
+/// An input of so many zeros.
+pub(crate) fn zeros(alloc: Global, count: usize) -> Result<Input, Wrong>
     ensures { IfOk result (λ input. length input.values ≡ count) }
 {
     let values = vec![in alloc; 0i64; count]?;

@@ -16,7 +16,7 @@ use Rattle.c_tree.specs.Statements.{block}
 use Rattle.flow_laws.specs.Sites.{Position, times_as_often, Content, Simple, Copy, LoopCopy, Jump, Give, Enter, Land, Missing, Site, Targets, asks, body_of, call_of, call_sites, flow, flush, head, held_flow, held_size, list_flow, loop_at, one, past, row_flow, row_size, size, with_next}
 use Rattle.flow_laws.specs.Graphs.{all_to, copy_of, copies}
 use Rattle.flow_laws.proofs.Copies.{row_flows}
-use Rattle.flow_graph.specs.Amounts.{kept}
+use Rattle.graph_lists.specs.Amounts.{kept}
 use Rattle.flow_graph.specs.Spots.{ends_of, test_ends, spot_of, spots}
 
 -- ---- scales

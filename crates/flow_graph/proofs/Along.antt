@@ -6,7 +6,7 @@ use Rattle.c_tree.specs.Blocks.{is_simple, begun, blocks, list_blocks}
 use Rattle.c_tree.specs.Statements.{block}
 use Rattle.flow_laws.specs.Sites.{Copy, Position, Targets, flow, flush, head, list_flow, list_size, past, size, with_next}
 use Rattle.flow_laws.proofs.Sizes.{is_run, simple_size, simple_blocks, plain_size, plain_blocks}
-use Rattle.flow_graph.specs.declared.spot.Spot.{Spot}
+use Rattle.graph_lists.specs.declared.spot.Spot.{Spot}
 use Rattle.flow_graph.specs.declared.layout.Item.{Item}
 use Rattle.flow_graph.specs.Spots.{spot_of, spots}
 use Rattle.flow_graph.proofs.BlockSizes.{blocks_le}

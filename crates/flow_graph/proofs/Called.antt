@@ -10,11 +10,11 @@ use Rattle.c_tree.specs.declared.program.Func.{Func}
 use Rattle.c_tree.specs.Statements.{block}
 use Rattle.flow_laws.specs.Sites.{Copy, Land, call_sites, call_size, head, one}
 use Rattle.flow_laws.specs.Graphs.{copies}
-use Rattle.flow_graph.specs.declared.spot.Spot.{Spot}
-use Rattle.flow_graph.specs.declared.spot.Ends.TheVariants as ends
+use Rattle.graph_lists.specs.declared.spot.Spot.{Spot}
+use Rattle.graph_lists.specs.declared.spot.Ends.TheVariants as ends
 use Rattle.flow_graph.specs.declared.layout.Item.{Item}
 use Rattle.flow_graph.specs.declared.layout.Item.TheVariants as item
-use Rattle.flow_graph.specs.Amounts.{kept}
+use Rattle.graph_lists.specs.Amounts.{kept}
 use Rattle.flow_graph.specs.Spots.{spot_of, spots}
 use Rattle.flow_graph.specs.Layout.{AreSizes, copies_above, place, copy_spots, spot_at, landing_at, laid_out}
 use Rattle.flow_graph.proofs.Alike.{copies_alike}

@@ -6,7 +6,7 @@ use Rattle.c_tree.specs.declared.program.BlockName.{BlockName}
 use Rattle.flow_laws.specs.Sites.{Copy}
 use Rattle.flow_laws.specs.Graphs.{copy_of, copies}
 use Rattle.flow_laws.proofs.Turned.{copy_sizes}
-use Rattle.flow_graph.specs.Amounts.{kept, amounts}
+use Rattle.graph_lists.specs.Amounts.{kept, amounts}
 use Rattle.flow_graph.specs.Layout.{each, AreSizes, copies_above}
 use Rattle.flow_graph.proofs.Totals.{Counts, all_count}
 use Rattle.flow_graph.proofs.Kept.{one_each, weighs_each, total_length}

@@ -1,9 +1,8 @@
 -- Edges, loops and caps of what is laid out are those of the graph.
-use Rattle.std.proofs.Common.{◌≡◌, ℕ, ◌+◌, ◌-◌, ◌^◌, ◌<◌, ◌≤◌, min, Bool, true, false, if◌then◌else◌, List, [], ◌∷◌, ◌++◌, length, drop, get_or, Option, Some, None, refl, sym, ap, ◌∙◌, subst, arith, append_assoc, append-nil, length-append}
+use Rattle.std.proofs.Common.{◌≡◌, ℕ, ◌+◌, ◌-◌, ◌^◌, ◌<◌, ◌≤◌, min, Bool, true, false, if◌then◌else◌, List, [], ◌∷◌, ◌++◌, length, Option, Some, None, refl, sym, ap, ◌∙◌, subst, arith, append_assoc, append-nil, length-append}
 use Rattle.std.specs.Prelude.{map, nat_lt}
 use Rattle.c_tree.specs.declared.program.BlockName.{BlockName}
 use Rattle.flow_laws.specs.declared.graph.Edge.{Edge}
-use Rattle.flow_laws.specs.declared.graph.Loop.{Loop}
 use Rattle.flow_laws.specs.Sites.{Content, Entry, Exit, Simple, Test, Jump, Give, Enter, Missing, Land, Site}
 use Rattle.flow_laws.specs.Graphs.{edges, edges_from, outs, loops, loops_at, loop_copies, loop_of, positions, first_out}
 use Rattle.flow_laws.proofs.Turned.{AllTested, IsTested}
@@ -11,14 +10,11 @@ use Rattle.flow_graph.proofs.Tame.{BlockWithin, BlocksWithin}
 use Rattle.std.proofs.Math.Seq.{take-append_seam}
 use Rattle.std.proofs.lemmas.List.{map-append}
 use Rattle.std.proofs.lemmas.Bool.{lt-ltb, ltb-true, ltb-false, le-ltb}
-use Rattle.flow_graph.specs.declared.spot.Ends.{Ends}
-use Rattle.flow_graph.specs.declared.spot.Ends.TheVariants as ends
-use Rattle.flow_graph.specs.declared.spot.Spot.{Spot}
-use Rattle.flow_graph.specs.Amounts.{kept}
+use Rattle.graph_lists.specs.Amounts.{kept}
 use Rattle.flow_graph.specs.Spots.{spot_of, spots, ends_of, turn_of}
-use Rattle.flow_graph.specs.Joints.{outs_of, spot_outs, spot_edges, turn_enters, spot_loops, ends_loops, spot_above}
-use Rattle.flow_graph.specs.Limits.{block_above, first_above}
-use Rattle.flow_graph.proofs.Sums.{drop_is}
+use Rattle.graph_lists.specs.Joints.{outs_of, spot_outs, spot_edges, turn_enters, spot_loops, ends_loops, block_above, spot_above}
+use Rattle.graph_lists.proofs.Steps.{outs_long}
+use Rattle.flow_graph.specs.Limits.{first_above}
 
 -- ---- edges
 
@@ -42,35 +38,7 @@ pub edges_are : (g : List Site) → edges g ≡ spot_edges 0 (spots g)
 unfolding edges
 edges_are g = edges_from_are 0 g
 
--- one node more
-pub edge_step : (xs : List Spot) (i : ℕ) (x : Spot) (old new whole : List Edge) → i < length xs → x ≡ get_or xs i x → new ≡ old ++ outs_of i x → old ++ spot_edges i (drop i xs) ≡ whole → new ++ spot_edges (i + 1) (drop (i + 1) xs) ≡ whole
-edge_step xs i x old new whole lt e h k =
-    ap (λ y. y ++ spot_edges (i + 1) (drop (i + 1) xs)) h ∙ append_assoc old (outs_of i x) (spot_edges (i + 1) (drop (i + 1) xs)) ∙ ap (λ y. old ++ spot_edges i y) (sym (drop_is xs i x lt e)) ∙ k
-
 -- ---- loops
-
-pub outs_long : (n m : ℕ) (e : Ends) (t u : ℕ) → length (spot_outs n e t u) ≡ length (spot_outs m e t u)
-outs_long n m ends.Never t u = refl
-outs_long n m ends.Once t u = refl
-outs_long n m ends.Choice t u = refl
-outs_long n m (ends.Loop l) t u = refl
-
-edges_long : (n m : ℕ) (g : List Spot) → length (spot_edges n g) ≡ length (spot_edges m g)
-edges_long n m [] = refl
-edges_long n m (s ∷ g) =
-    length-append (outs_of n s) (spot_edges (n + 1) g) ∙ (λ i. outs_long n m s.ends s.yes s.no i + edges_long (n + 1) (m + 1) g i) ∙ sym (length-append (outs_of m s) (spot_edges (m + 1) g))
-
-pub loop_step : (es : List Edge) (xs : List Spot) (i : ℕ) (x : Spot) (old new whole : List Loop) (first count all : ℕ) → i < length xs → x ≡ get_or xs i x → new ≡ old ++ ends_loops es first x.ends → count ≡ length (outs_of 0 x)
-    → old ++ spot_loops es first (drop i xs) ≡ whole → new ++ spot_loops es (first + count) (drop (i + 1) xs) ≡ whole
-loop_step es xs i x old new whole first count all lt e h hc k =
-    let rest = drop (i + 1) xs in
-    (λ z. h z ++ spot_loops es (first + hc z) rest) ∙ append_assoc old (ends_loops es first x.ends) (spot_loops es (first + length (outs_of 0 x)) rest) ∙ ap (λ y. old ++ spot_loops es first y) (sym (drop_is xs i x lt e)) ∙ k
-
-pub count_step : (xs : List Spot) (i : ℕ) (x : Spot) (first count all : ℕ) → i < length xs → x ≡ get_or xs i x → count ≡ length (outs_of 0 x) → first + length (spot_edges 0 (drop i xs)) ≡ all → first + count + length (spot_edges 0 (drop (i + 1) xs)) ≡ all
-count_step xs i x first count all lt e hc k =
-    let rest = drop (i + 1) xs in
-    let here : length (spot_edges 0 (drop i xs)) ≡ length (outs_of 0 x) + length (spot_edges 1 rest) = ap (λ y. length (spot_edges 0 y)) (drop_is xs i x lt e) ∙ length-append (outs_of 0 x) (spot_edges 1 rest) in
-    omega (arith, k, here, hc, edges_long 1 0 rest)
 
 edges_join : (n : ℕ) (a b : List Site) → edges_from n (a ++ b) ≡ edges_from n a ++ edges_from (n + length a) b
 edges_join n [] b = let z : n ≡ n + 0 = omega arith in ap (λ y. edges_from y b) z

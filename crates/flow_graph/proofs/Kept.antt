@@ -7,7 +7,7 @@ use Rattle.flow_laws.specs.Sites.{Copy, Position, Site, Targets, size, list_size
 use Rattle.flow_laws.specs.Graphs.{all_to}
 use Rattle.flow_laws.proofs.Sizes.{HaveSizes, flow_length, simple_size, plain_size}
 use Rattle.flow_laws.proofs.Turned.{copy_sizes}
-use Rattle.flow_graph.specs.Amounts.{kept, plus, begun_amount, amount, list_amount, amounts}
+use Rattle.graph_lists.specs.Amounts.{kept, plus, begun_amount, amount, list_amount, amounts}
 use Rattle.flow_graph.specs.Layout.{each, AreSizes, copies_above, place}
 use Rattle.flow_graph.proofs.Totals.{Weighs, AllCount, total, flow_total, all_count, simple_amount}
 

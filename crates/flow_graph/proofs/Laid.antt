@@ -2,7 +2,7 @@
 use Rattle.std.proofs.Common.{◌≡◌, List, [], ◌∷◌, ◌++◌, refl, sym, ap, ◌∙◌, append_assoc, append-nil}
 use Rattle.std.specs.Prelude.{Result, Ok, Err, IfOk}
 use Rattle.flow_laws.specs.Sites.{Copy}
-use Rattle.flow_graph.specs.declared.spot.Spot.{Spot}
+use Rattle.graph_lists.specs.declared.spot.Spot.{Spot}
 use Rattle.flow_graph.specs.declared.layout.Item.{Item}
 use Rattle.flow_graph.specs.declared.layout.Item.TheVariants as item
 use Rattle.flow_graph.specs.Layout.{item_spots, laid_out}

@@ -1,5 +1,5 @@
 -- The edges that leave a node are those that are laid out for it, and a loop copy stands where it is laid out.
-use Rattle.std.proofs.Common.{◌≡◌, ◌<◌, ◌⊎◌, inl, inr, ℕ, zero, suc, ◌+◌, List, [], ◌∷◌, ◌++◌, length, take, drop, get_or, Some, None, refl, sym, ap, ◌∙◌, subst, arith, append_assoc, length-append}
+use Rattle.std.proofs.Common.{◌≡◌, ◌<◌, ◌⊎◌, inl, inr, ℕ, zero, suc, ◌+◌, List, [], ◌∷◌, ◌++◌, length, take, Some, None, refl, sym, ap, ◌∙◌, subst, arith, length-append}
 use Rattle.std.specs.Prelude.{slice_get, slice_index_or, map}
 use Rattle.std.proofs.lemmas.List.{map-append}
 use Rattle.flow_laws.specs.declared.graph.Way.TheVariants.{Next, True, False}
@@ -7,16 +7,14 @@ use Rattle.flow_laws.specs.declared.graph.Edge.{Edge}
 use Rattle.flow_laws.specs.Sites.{Content, Entry, Exit, Simple, Test, Jump, Give, Enter, Missing, Land, Site}
 use Rattle.flow_laws.specs.Graphs.{edges, edges_from, outs, first_out, leaves, loops_at, loop_copies}
 use Rattle.flow_laws.proofs.Turned.{AllTested, IsTested}
-use Rattle.flow_graph.specs.declared.onward.Outs.{Outs}
-use Rattle.flow_graph.specs.declared.onward.Outs.TheVariants.{Nowhere}
-use Rattle.flow_graph.specs.declared.interval.Span.{Span}
-use Rattle.flow_graph.specs.declared.spot.Spot.{Spot}
+use Rattle.graph_lists.specs.declared.onward.Outs.{Outs}
+use Rattle.graph_lists.specs.declared.onward.Outs.TheVariants.{Nowhere}
 use Rattle.flow_graph.specs.Spots.{spot_of, spots, ends_of}
-use Rattle.flow_graph.specs.Joints.{outs_of}
-use Rattle.flow_graph.specs.Leaving.{IsOutBy, Leave, IsAmong, AreOuts, outs_from, all_outs}
-use Rattle.flow_graph.specs.Spans.{span_of, ends_spans, spot_spans}
-use Rattle.flow_graph.proofs.Sums.{drop_is}
-use Rattle.flow_graph.proofs.Drawn.{outs_are, outs_long}
+use Rattle.graph_lists.specs.Joints.{outs_of}
+use Rattle.graph_lists.specs.Leaving.{IsOutBy, Leave, IsAmong, AreOuts, outs_from, all_outs}
+use Rattle.graph_lists.specs.Spans.{span_of, ends_spans, spot_spans}
+use Rattle.graph_lists.proofs.Steps.{outs_long}
+use Rattle.flow_graph.proofs.Drawn.{outs_are}
 
 -- ---- parts of lists
 
@@ -226,12 +224,6 @@ table_index g xs n h is =
     let within : n < length all = omega (arith, h, table_long 0 g) in
     subst (λ ys. AreOuts (edges g) n (slice_index_or ys n Nowhere)) (sym is) (table_outs g n (slice_index_or all n Nowhere) h (some_at all n Nowhere within))
 
--- one node more
-pub outs_step : (xs : List Spot) (i : ℕ) (x : Spot) (old new whole : List Outs) (first count : ℕ) → i < length xs → x ≡ get_or xs i x → new ≡ old ++ outs_from first x.ends ∷ [] → count ≡ length (outs_of 0 x) → old ++ all_outs first (drop i xs) ≡ whole → new ++ all_outs (first + count) (drop (i + 1) xs) ≡ whole
-outs_step xs i x old new whole first count lt e h hc k =
-    let rest = drop (i + 1) xs in
-    (λ z. h z ++ all_outs (first + hc z) rest) ∙ append_assoc old (outs_from first x.ends ∷ []) (all_outs (first + length (outs_of 0 x)) rest) ∙ ap (λ y. old ++ all_outs first y) (sym (drop_is xs i x lt e)) ∙ k
-
 -- ---- where loop copies stand
 
 one_span : (n : ℕ) (c : Content) → IsTested n c → map span_of (loops_at c) ≡ ends_spans n (ends_of c)
@@ -250,7 +242,3 @@ pub spans_are : (n : ℕ) (g : List Site) → AllTested n g → map span_of (loo
 spans_are n [] t = refl
 spans_are n (s ∷ g) t =
     map-append span_of (loops_at s.content) (loop_copies g) ∙ (λ i. one_span n s.content t.0 i ++ spans_are (n + 1) g t.1 i)
-
-pub span_step : (xs : List Spot) (i : ℕ) (x : Spot) (old new whole : List Span) → i < length xs → x ≡ get_or xs i x → new ≡ old ++ ends_spans i x.ends → old ++ spot_spans i (drop i xs) ≡ whole → new ++ spot_spans (i + 1) (drop (i + 1) xs) ≡ whole
-span_step xs i x old new whole lt e h k =
-    ap (λ y. y ++ spot_spans (i + 1) (drop (i + 1) xs)) h ∙ append_assoc old (ends_spans i x.ends) (spot_spans (i + 1) (drop (i + 1) xs)) ∙ ap (λ y. old ++ spot_spans i y) (sym (drop_is xs i x lt e)) ∙ k

@@ -1,5 +1,3 @@
-pub mod AmountLayers
-pub mod Sums
 pub mod Totals
 pub mod BlockSizes
 pub mod Tame
@@ -15,5 +13,4 @@ pub mod Drawn
 pub mod Leaving
 pub mod Landed
 pub mod Measured
-pub mod Touched
 pub mod Worked

@@ -8,22 +8,22 @@ use Rattle.c_tree.specs.declared.program.Func.{Func}
 use Rattle.flow_laws.specs.Sites.{Content, Entry, Exit, Simple, Test, Jump, Give, Enter, Missing, Land, Copy, Site}
 use Rattle.flow_laws.specs.Graphs.{copies, copy_of, edges, edges_from, graph, nodes, outs, sites_of}
 use Rattle.flow_laws.proofs.Turned.{copy_sizes}
-use Rattle.flow_graph.specs.declared.amounts.Weights.{Weights}
+use Rattle.graph_lists.specs.declared.sizes.Weights.{Weights}
 use Rattle.flow_graph.specs.declared.fault.PlanFault.TheVariants.{Blocks, Edges, Cap}
-use Rattle.flow_graph.specs.Amounts.{kept, amounts}
+use Rattle.graph_lists.specs.Amounts.{kept, amounts}
 use Rattle.flow_graph.specs.Limits.{block_copies, copies_of, first_above, refusal}
 use Rattle.flow_graph.specs.Layout.{HasRoom, copies_above}
 use Rattle.flow_graph.specs.Spots.{spots, spot_of}
 use Rattle.flow_graph.specs.Plans.{cost_of_spot, cost_of_source}
-use Rattle.flow_graph.specs.declared.spot.Spot.{Spot}
+use Rattle.graph_lists.specs.declared.spot.Spot.{Spot}
 use Rattle.flow_laws.specs.declared.graph.Edge.{Edge}
 use Rattle.flow_laws.specs.Paths.{cost_of_edge, cost_of_site}
 use Rattle.c_tree.specs.declared.program.Costs.{Costs}
 use Rattle.flow_graph.proofs.Tame.{AllWithin, BlocksWithin, IsTame, copies_tame}
 use Rattle.flow_graph.proofs.Drawn.{blocks_within, above_is}
-use Rattle.flow_graph.specs.Joints.{spot_above}
+use Rattle.graph_lists.specs.Joints.{spot_above}
 use Rattle.std.proofs.lemmas.List.{length-map}
-use Rattle.flow_graph.proofs.Sums.{amounts_length}
+use Rattle.graph_lists.proofs.Sums.{amounts_length}
 use Rattle.flow_graph.proofs.Totals.{Weighs, Counts, total, all_count}
 use Rattle.flow_graph.proofs.Unfolded.{got, copy_is}
 

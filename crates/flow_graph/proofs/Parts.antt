@@ -10,10 +10,10 @@ use Rattle.c_tree.specs.Blocks.{list_blocks}
 use Rattle.c_tree.specs.Statements.{block, held}
 use Rattle.flow_laws.specs.Sites.{Copy, LoopCopy, Targets, asks, body_of, flow, head, list_flow, list_size, loop_at, times_as_often, with_next}
 use Rattle.flow_laws.proofs.FlowLayers.{flow-If, flow-While, flow-Do, flow-For}
-use Rattle.flow_graph.specs.declared.spot.Turn.{Turn}
-use Rattle.flow_graph.specs.declared.spot.Spot.{Spot}
-use Rattle.flow_graph.specs.declared.spot.Ends.TheVariants as ends
-use Rattle.flow_graph.specs.Amounts.{kept}
+use Rattle.graph_lists.specs.declared.spot.Turn.{Turn}
+use Rattle.graph_lists.specs.declared.spot.Spot.{Spot}
+use Rattle.graph_lists.specs.declared.spot.Ends.TheVariants as ends
+use Rattle.graph_lists.specs.Amounts.{kept}
 use Rattle.flow_graph.specs.Spots.{spot_of, spots, test_ends}
 use Rattle.flow_graph.specs.Layout.{copies_above, place, turn, spot_at, list_spots}
 use Rattle.flow_graph.proofs.Alike.{list_alike, copies_alike}

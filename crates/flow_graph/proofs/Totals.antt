@@ -16,9 +16,9 @@ use Rattle.flow_laws.specs.Sites.{Position, times_as_often, Simple, Jump, Give, 
 use Rattle.flow_laws.specs.Graphs.{all_to, copy_of, copies}
 use Rattle.flow_laws.proofs.Sizes.{is_run}
 use Rattle.flow_laws.proofs.Copies.{row_flows}
-use Rattle.flow_graph.specs.declared.amounts.Weights.{Weights}
-use Rattle.flow_graph.specs.Amounts.{kept, plus, begun_amount, amount, row_amount, part_amount, list_amount, amounts}
-use Rattle.flow_graph.proofs.AmountLayers.{row_is}
+use Rattle.graph_lists.specs.declared.sizes.Weights.{Weights}
+use Rattle.graph_lists.specs.Amounts.{kept, plus, begun_amount, amount, row_amount, part_amount, list_amount, amounts}
+use Rattle.graph_lists.proofs.AmountLayers.{row_is}
 
 -- ---- what the nodes count
 

@@ -7,16 +7,16 @@ use Rattle.c_tree.specs.declared.program.Func.{Func}
 use Rattle.c_tree.specs.declared.tree.Stmt.{Stmt}
 use Rattle.flow_laws.specs.Sites.{Copy, head, list_size}
 use Rattle.flow_laws.specs.Graphs.{all_to, copies, copy_of, sites_of}
-use Rattle.flow_graph.specs.declared.spot.Spot.{Spot}
-use Rattle.flow_graph.specs.declared.spot.Ends.TheVariants as ends
+use Rattle.graph_lists.specs.declared.spot.Spot.{Spot}
+use Rattle.graph_lists.specs.declared.spot.Ends.TheVariants as ends
 use Rattle.flow_graph.specs.declared.layout.Item.{Item}
-use Rattle.flow_graph.specs.Amounts.{kept, amounts}
+use Rattle.graph_lists.specs.Amounts.{kept, amounts}
 use Rattle.flow_graph.specs.Spots.{spots}
 use Rattle.flow_graph.specs.Layout.{each, AreSizes, copies_above, place, HasRoom, body_spots, copy_spots, item_spots, laid_out, laid_back, list_spots, outer_spot}
 use Rattle.flow_graph.proofs.Along.{list_spots_is}
 use Rattle.flow_graph.proofs.Copied.{copy_at, size_at}
 use Rattle.flow_graph.proofs.Laid.{laid_last}
-use Rattle.flow_graph.proofs.Sums.{amounts_take, amounts_length}
+use Rattle.graph_lists.proofs.Sums.{amounts_take, amounts_length}
 
 pub back_last : (all : List Copy) (xs : List Item) (x : Item) → laid_back all (xs ++ x ∷ []) ≡ item_spots all x ++ laid_back all xs
 back_last all [] x = sym (append-nil (item_spots all x))

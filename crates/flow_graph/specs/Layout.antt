@@ -7,15 +7,15 @@ use Rattle.c_tree.specs.Blocks.{is_simple, blocks}
 use Rattle.c_tree.specs.Statements.{block}
 use Rattle.flow_laws.specs.Sites.{Position, Copy, Targets, head, with_next, size, list_size, flow}
 use Rattle.flow_laws.specs.Graphs.{copies}
-use Rattle.flow_graph.specs.declared.amounts.Weights.{Weights}
-use Rattle.flow_graph.specs.declared.spot.Turn.{Turn}
-use Rattle.flow_graph.specs.declared.spot.Ends.{Ends}
-use Rattle.flow_graph.specs.declared.spot.Ends.TheVariants as ends
-use Rattle.flow_graph.specs.declared.spot.Spot.{Spot}
+use Rattle.graph_lists.specs.declared.sizes.Weights.{Weights}
+use Rattle.graph_lists.specs.declared.spot.Turn.{Turn}
+use Rattle.graph_lists.specs.declared.spot.Ends.{Ends}
+use Rattle.graph_lists.specs.declared.spot.Ends.TheVariants as ends
+use Rattle.graph_lists.specs.declared.spot.Spot.{Spot}
 use Rattle.flow_graph.specs.declared.layout.Leads.{Leads}
 use Rattle.flow_graph.specs.declared.layout.Item.{Item}
 use Rattle.flow_graph.specs.declared.layout.Item.TheVariants as item
-use Rattle.flow_graph.specs.Amounts.{kept, amounts}
+use Rattle.graph_lists.specs.Amounts.{kept, amounts}
 use Rattle.flow_graph.specs.Spots.{spots}
 
 -- each node counts 1

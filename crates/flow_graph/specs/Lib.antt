@@ -1,11 +1,11 @@
 pub mod Limits
-pub mod Amounts
+pub use Rattle.graph_lists.specs.Amounts
 pub mod Spots
 pub mod Layout
-pub mod Joints
-pub mod Leaving
-pub mod Spans
-pub mod Touches
+pub use Rattle.graph_lists.specs.Joints
+pub use Rattle.graph_lists.specs.Leaving
+pub use Rattle.graph_lists.specs.Spans
+pub use Rattle.graph_lists.specs.Touches
 pub mod Landings
 pub mod Plans
 pub mod Worked

@@ -3,6 +3,7 @@ use Rattle.std.specs.Prelude.{ℕ, ◌+◌, ◌^◌, nat_lt, if◌then◌else◌
 use Rattle.c_tree.specs.declared.program.BlockName.{BlockName}
 use Rattle.flow_laws.specs.Sites.{Site}
 use Rattle.flow_laws.specs.Graphs.{edges}
+use Rattle.graph_lists.specs.Joints.{block_above}
 use Rattle.flow_graph.specs.declared.fault.PlanFault.{PlanFault}
 use Rattle.flow_graph.specs.declared.fault.PlanFault.TheVariants.{Blocks, Edges, Cap}
 
@@ -15,11 +16,6 @@ copies_of (Some b) = 1
 abbrev pub block_copies : List Site → ℕ
 block_copies [] = 0
 block_copies (s ∷ g) = copies_of s.node.block + block_copies g
-
--- the block of a node whose cap is above the limit, and else what comes later
-abbrev pub block_above : ℕ → Option BlockName → ℕ → Option BlockName → Option BlockName
-block_above limit None cap later = later
-block_above limit (Some b) cap later = if nat_lt limit cap then Some b else later
 
 -- the first block copy whose cap is above the limit
 abbrev pub first_above : ℕ → List Site → Option BlockName

@@ -10,15 +10,15 @@ use Rattle.flow_laws.specs.declared.graph.Loop.{Loop}
 use Rattle.flow_laws.specs.Sites.{Site}
 use Rattle.flow_laws.specs.Graphs.{graph, edges, loops, loop_copies}
 use Rattle.flow_laws.specs.Paths.{keeps_each, cost_of_block}
-use Rattle.flow_graph.specs.declared.onward.Outs.{Outs}
-use Rattle.flow_graph.specs.declared.interval.Span.{Span}
-use Rattle.flow_graph.specs.declared.spot.Spot.{Spot}
-use Rattle.flow_graph.specs.declared.touch.Touch.{Touch}
+use Rattle.graph_lists.specs.declared.onward.Outs.{Outs}
+use Rattle.graph_lists.specs.declared.interval.Span.{Span}
+use Rattle.graph_lists.specs.declared.spot.Spot.{Spot}
+use Rattle.graph_lists.specs.declared.touch.Touch.{Touch}
 use Rattle.flow_graph.specs.Limits.{refusal, block_copies}
-use Rattle.flow_graph.specs.Leaving.{all_outs}
-use Rattle.flow_graph.specs.Spans.{span_of}
+use Rattle.graph_lists.specs.Leaving.{all_outs}
+use Rattle.graph_lists.specs.Spans.{span_of}
 use Rattle.flow_graph.specs.Spots.{spots}
-use Rattle.flow_graph.specs.Touches.{all_touches}
+use Rattle.graph_lists.specs.Touches.{all_touches}
 
 -- what is planned
 pub record Planned : Type 0 where

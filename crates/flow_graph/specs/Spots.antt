@@ -1,13 +1,12 @@
 -- Nodes as they are laid out: without their statements, and with caps that stay at the last number of 64 bits. This project's own.
 use Rattle.std.specs.Prelude.{List, map, Option, Some, None}
-use Rattle.c_tree.specs.declared.program.BlockName.{BlockName}
 use Rattle.flow_laws.specs.declared.graph.Node.{Node}
 use Rattle.flow_laws.specs.Sites.{LoopCopy, Content, Entry, Exit, Simple, Test, Jump, Give, Enter, Missing, Land, Site, call_of}
-use Rattle.flow_graph.specs.declared.spot.Turn.{Turn}
-use Rattle.flow_graph.specs.declared.spot.Ends.{Ends}
-use Rattle.flow_graph.specs.declared.spot.Ends.TheVariants as ends
-use Rattle.flow_graph.specs.declared.spot.Spot.{Spot}
-use Rattle.flow_graph.specs.Amounts.{kept}
+use Rattle.graph_lists.specs.declared.spot.Turn.{Turn}
+use Rattle.graph_lists.specs.declared.spot.Ends.{Ends}
+use Rattle.graph_lists.specs.declared.spot.Ends.TheVariants as ends
+use Rattle.graph_lists.specs.declared.spot.Spot.{Spot}
+use Rattle.graph_lists.specs.Amounts.{kept}
 
 abbrev pub turn_of : LoopCopy → Turn
 turn_of l = record { from = l.from; past = l.past; bound = l.bound; at_end = l.at_end }

@@ -8,18 +8,15 @@ ghost use Rattle.flow_laws.specs.Graphs.{graph, nodes, edges, loops, loop_copies
 ghost use Rattle.flow_laws.specs.Paths.{edge_cost, follows, keeps_each};
 ghost use Rattle.flow_graph.specs.Limits.{block_copies, refusal};
 ghost use Rattle.flow_graph.specs.Landings.{calls};
-ghost use Rattle.flow_graph.specs.Leaving.{AreOuts};
+ghost use Rattle.graph_lists.specs.Leaving.{AreOuts};
 ghost use Rattle.flow_graph.specs.Plans.{IsPlan, IsPlanned, planned, keeps_all};
-ghost use Rattle.flow_graph.specs.Spans.{span_of};
-ghost use Rattle.flow_graph.specs.Touches.{touches_of};
+ghost use Rattle.graph_lists.specs.Spans.{span_of};
+ghost use Rattle.graph_lists.specs.Touches.{touches_of};
 
-use crate::interval::Span;
 use crate::lists::{edge_cost, follows};
-use crate::onward::Outs;
-use crate::spot::Spot;
-use crate::touch::{Touch, keeps_all};
 use c_tree::{BlockName, Costs, Program};
 use flow_laws::{Edge, Loop, Node};
+use graph_lists::{Outs, Span, Spot, Touch, keeps_all};
 use sqlite_items::Items;
 use std::marker::Model;
 

@@ -8,15 +8,14 @@ ghost use Rattle.c_tree.specs.Blocks.{is_simple, blocks, list_blocks};
 ghost use Rattle.c_tree.specs.Statements.{block, held};
 ghost use Rattle.flow_laws.specs.Sites.{head, size, list_size, flow, with_next, body_of, call_sites, call_size};
 ghost use Rattle.flow_laws.specs.Graphs.{copies, all_to};
-ghost use Rattle.flow_graph.specs.Amounts.{kept};
+ghost use Rattle.graph_lists.specs.Amounts.{kept};
 ghost use Rattle.flow_graph.specs.Spots.{spots};
 ghost use Rattle.flow_graph.specs.Layout.{AreSizes, copies_above, place, turn, targets, spot_at, landing_at, pending, past_run, list_spots, laid_out};
 
-use crate::amounts::{Weights, list_amount, stmt_amount};
-use crate::spot::{Ends, Spot, Turn};
 use c_semantics::is_simple;
 use c_tree::{BlockName, Func, NoMemory, Stmt};
 use flow_laws::Node;
+use graph_lists::{Ends, Spot, Turn, Weights, list_amount, stmt_amount};
 use sqlite_items::{Boxed, Items};
 use std::alloc::Global;
 

@@ -5,9 +5,9 @@ ghost use Rattle.c_tree.specs.Claims.{block_cost};
 ghost use Rattle.flow_laws.specs.Paths.{follows};
 ghost use Rattle.flow_graph.specs.Plans.{cost_of_source};
 
-use crate::spot::Spot;
 use c_tree::{BlockName, Costs};
 use flow_laws::Edge;
+use graph_lists::Spot;
 
 pub(crate) fn follows(edges: &[Edge], list: &[u16]) -> bool
     ensures { result ≡ follows edges.now list.now }

@@ -4,23 +4,21 @@ ghost use Rattle.std.specs.Prelude.{◌≡◌, ◌≢◌, ◌<◌, ◌≤◌, No
 ghost use Rattle.c_tree.specs.Claims.{AreCostsOf};
 ghost use Rattle.c_tree.specs.WellFormed.{WellFormed};
 ghost use Rattle.flow_laws.specs.Graphs.{graph, edges};
-ghost use Rattle.flow_graph.specs.Amounts.{amounts};
+ghost use Rattle.graph_lists.specs.Amounts.{amounts};
 ghost use Rattle.flow_graph.specs.Spots.{spots};
 ghost use Rattle.flow_graph.specs.Limits.{refusal, block_copies};
 ghost use Rattle.flow_graph.specs.Plans.{planned};
 ghost use Rattle.flow_graph.specs.declared.fault.PlanFault.TheVariants as PlanFault;
 
-use crate::amounts::{Weights, amounts};
 use crate::fault::PlanFault;
 use crate::graph::Plan;
-use crate::interval::spans_of;
-use crate::joints::{edges_of, first_above, loops_of};
 use crate::layout::EACH;
-use crate::onward::outs_by_node;
-use crate::spot::Spot;
-use crate::touch::touches_by_edge;
 use crate::unfold::lay_out;
 use c_tree::{Costs, NoMemory, Program};
+use graph_lists::{
+    Spot, Weights, amounts, edges_of, first_above, loops_of, outs_by_node, spans_of,
+    touches_by_edge,
+};
 use sqlite_items::Items;
 use std::alloc::Global;
 use typed_laws::program_is_well_formed;

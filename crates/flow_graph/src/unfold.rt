@@ -4,14 +4,14 @@
 ghost use Rattle.std.specs.Prelude.{◌≡◌, ◌<◌, ◌+◌, ◌^◌, ◌++◌, ◌∷◌, [], suc, length, slice_get, unwrap_or, IfOk};
 ghost use Rattle.flow_laws.specs.Sites.{head};
 ghost use Rattle.flow_laws.specs.Graphs.{copies, sites_of};
-ghost use Rattle.flow_graph.specs.Amounts.{amounts};
+ghost use Rattle.graph_lists.specs.Amounts.{amounts};
 ghost use Rattle.flow_graph.specs.Spots.{spots};
 ghost use Rattle.flow_graph.specs.Layout.{each, HasRoom, body_spots, copy_spots, item_spots, laid_out, laid_back, outer_spot};
 
 use crate::layout::{At, Item, Leads, Scope, emit_list};
-use crate::spot::{Ends, Spot};
 use c_tree::{BlockName, Func, NoMemory};
 use flow_laws::Node;
+use graph_lists::{Ends, Spot};
 use sqlite_items::Items;
 use std::alloc::Global;
 

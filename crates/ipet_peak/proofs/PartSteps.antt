@@ -12,12 +12,11 @@ use Rattle.c_tree.specs.declared.tree.Stmt.{Stmt}
 use Rattle.c_tree.specs.Blocks.{is_simple, begun, blocks, list_blocks}
 use Rattle.flow_laws.proofs.Sizes.{simple_blocks, plain_blocks}
 use Rattle.ipet_peak.specs.declared.pieces.Piece.{Piece}
-use Rattle.ipet_peak.specs.declared.pieces.Piece.TheVariants as piece
 use Rattle.peak_laws.specs.Parts.{Part, Nothing, Block, Then, Choice, While, Do, Body}
 use Rattle.peak_laws.specs.declared.ways.Leaving.TheVariants.{ByEnd}
 use Rattle.peak_laws.specs.ProgramParts.{sequence, pending_block, block_past_run, call_part, step_part, part, list_part, func_part, parts}
 use Rattle.c_tree.proofs.ExecLayers.{blocks-Group}
-use Rattle.ipet_peak.specs.Pieces.{stack_after_piece, stack_after, Adds, Leads, IsVoid}
+use Rattle.ipet_peak.specs.Pieces.{stack_after, Leads, IsVoid}
 use Rattle.ipet_peak.proofs.PartLayers.{part-For, part-Group}
 
 -- what is added up to a place of a list, and the rest from there on, make the part p

@@ -5,12 +5,12 @@ use Rattle.ipet_peak.specs.declared.tree.Tree.{Tree}
 use Rattle.ipet_peak.specs.declared.tree.Tree.TheVariants as tree
 use Rattle.ipet_peak.specs.declared.tree.Tree.TheBlock.{shape-the_row-Tree-0, hidden-the_row-Tree-0}
 use denote.Hole.Carrier.{hidden}
-use Rattle.peak_laws.specs.Parts.{Nothing, Block, Then, Choice, While, Do, Body, turn, turn_cost, back, dearest_ways}
+use Rattle.peak_laws.specs.Parts.{Nothing, Block, Then, Choice, While, Do, Body, turn, dearest_ways}
 use Rattle.peak_laws.specs.declared.ways.Leaving.{Leaving}
 use Rattle.peak_laws.specs.declared.ways.Ways.{Ways}
 use Rattle.peak_laws.specs.Magnitudes.{cap_cost, WaysAreAtMost}
 use Rattle.ipet_peak.specs.Trees.{part_of, row_part_of, KeepsWays, RowKeepsWays, IsTreeOf}
-use Rattle.peak_laws.proofs.Magnitudes.{light, turn_light, all_most_weak, most_turn, most_greater}
+use Rattle.peak_laws.proofs.Magnitudes.{light, turn_light, all_most_weak}
 
 pub part-Nothing : part_of tree.Nothing ≡ Nothing
 unfolding part_of
@@ -74,9 +74,6 @@ room_body ways t a x is h = let e : cap_cost (part_of t) ≡ cap_cost (part_of a
 -- the ways of a tree that costs at most x
 pub small_ways : (t : Tree) (w : Ways) (x : ℕ) → w ≡ dearest_ways (part_of t) → cap_cost (part_of t) ≤ x → WaysAreAtMost w x
 small_ways t w x is h = subst (λ v. WaysAreAtMost v x) (sym is) (all_most_weak (dearest_ways (part_of t)) (cap_cost (part_of t)) x (light (part_of t)) h)
-
-pub small_turn : (c x : ℕ) (w : Ways) → WaysAreAtMost w x → turn_cost c (back w) ≤ c + x
-small_turn c x w h = most_turn c (back w) x (most_greater w.next w.continues x h.next h.continues)
 
 -- ---- the ways that a tree keeps
 

@@ -7,9 +7,9 @@ ghost use Rattle.peak_laws.specs.Magnitudes.{cap_cost, WaysAreAtMost, node_caps}
 ghost use Rattle.ipet_peak.specs.Trees.{part_of, amounts, FitsCaps, KeepsWays};
 
 use crate::tree::{Tree, dearest_ways, step_cost};
-use crate::ways::{back, both, greater, more, turn_cost};
 use c_tree::NoMemory;
 use peak_laws::{Leaving, Ways};
+use peak_ways::{back, both, greater, more, turn_cost};
 use sqlite_items::Items;
 
 /// How often a part is left, by each of the four ways.

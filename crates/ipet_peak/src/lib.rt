@@ -10,7 +10,6 @@ mod pieces;
 mod potentials;
 mod tree;
 mod turns;
-mod ways;
 
 pub use computing::peak;
 pub use peak_laws::Peak;

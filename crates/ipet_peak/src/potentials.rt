@@ -8,8 +8,8 @@ ghost use Rattle.ipet_peak.specs.Trees.{part_of, targets, greatest_target, Keeps
 
 use crate::ahead::{CostsAhead, ahead, all_to, body_of, dearest_cost, larger, with_next};
 use crate::tree::{Tree, dearest_ways, step_cost};
-use crate::ways::turn_cost;
 use c_tree::NoMemory;
+use peak_ways::turn_cost;
 use sqlite_items::Items;
 
 /// What a part costs from its entry on.

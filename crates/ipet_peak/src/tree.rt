@@ -5,11 +5,11 @@ ghost use Rattle.peak_laws.specs.Parts as spec;
 ghost use Rattle.peak_laws.specs.Magnitudes.{cap_cost};
 ghost use Rattle.ipet_peak.specs.Trees.{part_of, KeepsWays, IsTreeOf};
 
-use crate::ways::{
-    block_ways, body_ways, choice_ways, do_ways, only_next, then_ways, turn_cost, while_ways,
-};
 use c_tree::NoMemory;
 use peak_laws::{Leaving, Ways};
+use peak_ways::{
+    block_ways, body_ways, choice_ways, do_ways, only_next, then_ways, turn_cost, while_ways,
+};
 use sqlite_items::Boxed;
 use std::alloc::Global;
 

@@ -6,8 +6,8 @@ ghost use Rattle.peak_laws.specs.Magnitudes.{cap_cost, WaysAreAtMost};
 ghost use Rattle.ipet_peak.specs.Trees.{part_of, turns_of, KeepsWays};
 
 use crate::tree::{Tree, dearest_ways, step_cost};
-use crate::ways::turn_cost;
 use c_tree::NoMemory;
+use peak_ways::turn_multiplier;
 use sqlite_items::Items;
 
 // What a full turn through a body costs.
@@ -18,7 +18,7 @@ fn turn(c: u128, step: u128, body: &Tree) -> i128
     requires body { cap_cost (part_of body.now) ≤ 2 ^ 126 }
     ensures { result ≡ pos (spec.turn_cost (c + step) (spec.back (spec.dearest_ways (part_of body.now)))) }
 {
-    turn_cost(c + step, dearest_ways(body)) as i128
+    turn_multiplier(c + step, dearest_ways(body))
 }
 
 /// Adds the costs of the turns, by the loops' conditions.

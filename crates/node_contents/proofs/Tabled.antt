@@ -4,7 +4,7 @@ use Rattle.std.specs.Prelude.{slice_get, map}
 use Rattle.std.proofs.lemmas.List.{map-append}
 use Rattle.c_tree.specs.declared.program.Func.{Func}
 use Rattle.c_tree.specs.declared.program.Program.{Program}
-use Rattle.flow_graph.proofs.Sums.{drop_is}
+use Rattle.graph_lists.proofs.Sums.{drop_is}
 use Rattle.flow_laws.specs.BlockLists.{Block, blocks_of_body, blocks_in, blocks_of_func}
 use Rattle.node_contents.specs.declared.block.Block as lent
 use Rattle.node_contents.specs.Contents.{what, what_of}

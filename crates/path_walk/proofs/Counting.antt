@@ -9,11 +9,11 @@ use Rattle.std.proofs.lemmas.Option.{slice_get-get_or}
 use Rattle.flow_laws.specs.declared.graph.Loop.{Loop}
 use Rattle.flow_laws.specs.Paths.{is_among, most_turns, keeps_each, each_allows, allows, turns_left, turns_left_from, turns_left_on, one_less, has_turn}
 use Rattle.flow_laws.proofs.BoundsOn.{left_on, each_on, each_by_number}
-use Rattle.flow_graph.specs.declared.touch.Touch.{Touch}
-use Rattle.flow_graph.specs.declared.touch.Touch.TheVariants.{Enters, Turns}
-use Rattle.flow_graph.specs.Touches.{with_touch, touches_of}
-use Rattle.flow_graph.proofs.Touched.{From, touches_from}
-use Rattle.flow_graph.proofs.Sums.{drop_is, past_end}
+use Rattle.graph_lists.specs.declared.touch.Touch.{Touch}
+use Rattle.graph_lists.specs.declared.touch.Touch.TheVariants.{Enters, Turns}
+use Rattle.graph_lists.specs.Touches.{with_touch, touches_of}
+use Rattle.graph_lists.proofs.Touched.{From, touches_from}
+use Rattle.graph_lists.proofs.Sums.{drop_is, past_end}
 use Rattle.path_walk.specs.Counters.{left_of, is_below, may_touch, after_touches, MayTurn, AreOn, AreAfter}
 
 -- ---- entries

@@ -2,8 +2,8 @@
 use Rattle.std.specs.Prelude.{◌≡◌, ℕ, nat_lt, Bool, true, List, [], ◌∷◌, length, Option, Some, None, slice_get, slice_set, slice_index_or}
 use Rattle.flow_laws.specs.declared.graph.Loop.{Loop}
 use Rattle.flow_laws.specs.Paths.{allows, turns_left, turns_left_on, one_less, has_turn}
-use Rattle.flow_graph.specs.declared.touch.Touch.{Touch}
-use Rattle.flow_graph.specs.declared.touch.Touch.TheVariants.{Enters, Turns}
+use Rattle.graph_lists.specs.declared.touch.Touch.{Touch}
+use Rattle.graph_lists.specs.declared.touch.Touch.TheVariants.{Enters, Turns}
 
 -- the counter of the loop number k
 abbrev pub left_of : List (Option ℕ) → ℕ → Option ℕ

@@ -1,8 +1,9 @@
 //! What evaluation and execution of a well-formed program keep, and that they ask for nothing that is not there.
 
-ghost use Rattle.std.specs.Prelude.{◌≡◌, ℕ, Bool, IsTrue, List, [], length, drop, slice_get, IsSome, IfSome};
+ghost use Rattle.std.specs.Prelude.{◌≡◌, ℕ, Bool, IsTrue, List, [], length, drop, slice_get, Option, IsSome, IfSome};
 ghost use Rattle.c_tree.specs.Kept.{Keeps, AreValues, AreCalleesOf};
 ghost use Rattle.c_tree.specs.Statements.{Callee, exec};
+ghost use Rattle.c_tree.specs.declared.tree.Ty.{Ty};
 ghost use Rattle.c_tree.specs.declared.tree.UnOp.{UnOp};
 ghost use Rattle.c_tree.specs.declared.tree.BinOp.{BinOp};
 ghost use Rattle.c_tree.specs.declared.tree.Expr.{Expr};
@@ -12,18 +13,19 @@ ghost use Rattle.c_tree.specs.declared.program.Input.{Input};
 ghost use Rattle.c_tree.specs.declared.value.Value.{Value};
 ghost use Rattle.c_tree.specs.declared.value.Store.{Store};
 ghost use Rattle.c_tree.specs.Values.{ty_of, is_value};
-ghost use Rattle.c_tree.specs.Operators.{unary, binary};
+ghost use Rattle.c_tree.specs.Operators.{unary, operated};
 ghost use Rattle.c_tree.specs.Expressions.{un_ty, bin_ty, type_of, val};
 ghost use Rattle.c_tree.specs.Runs.{callees, entry_types, fits, global_slots, arguments};
 ghost use Rattle.c_tree.specs.Layouts.{Layout, global_shapes, IsValueOf, IsSlotOf, EachSlot, HasLayout, HasReadLayout};
 ghost use Rattle.c_tree.specs.WellFormed.{Context, WellFormedExpr, WellFormedStmt, WellFormed};
 ghost use Rattle.c_tree.specs.Asked.{FindsExpr, FindsStmt};
 
-/// An operator on values in their ranges gives, if anything, a value of its type in its range.
+/// An operator on operands in their ranges gives, if anything, a value of its type in its range. Each of two operands may
+/// be undefined; of `&&` and `||` the right one counts only where the left one does not decide.
 pub fn operators_give_values()
     ensures one { (op : UnOp) (a : Value) → IsTrue (is_value a) → IfSome (unary op a) (IsValueOf (un_ty op (ty_of a))) }
-    ensures two { (op : BinOp) (a b : Value) → IsTrue (is_value a) → IsTrue (is_value b)
-        → IfSome (binary op a b) (IsValueOf (bin_ty op (ty_of a) (ty_of b))) }
+    ensures two { (op : BinOp) (t u : Ty) (a b : Option Value) → IfSome a (IsValueOf t) → IfSome b (IsValueOf u)
+        → IfSome (operated op a b) (IsValueOf (bin_ty op t u)) }
 {}
 
 /// A well-formed expression, in a store of the layout, finds each variable that it names, of the right kind. Its value is,

@@ -10,7 +10,7 @@ use Rattle.flow_laws.proofs.FlowLayers.{size-If, size-While, size-Do, size-For, 
 use Rattle.c_tree.specs.Blocks.{is_simple, blocks, list_blocks}
 use Rattle.flow_graph.specs.Spots.{spots}
 use Rattle.flow_graph.specs.Layout.{copies_above, place, targets, list_spots, laid_out, pending}
-use Rattle.flow_graph.proofs.Sums.{drop_is}
+use Rattle.graph_lists.proofs.Sums.{drop_is}
 use Rattle.flow_graph.proofs.Along.{list_spots_is, enough, simple_step, plain_step, reread}
 use Rattle.flow_graph.proofs.Laid.{if_ok}
 use Rattle.flow_graph.proofs.layout.+emit.Goals as goal

@@ -1,7 +1,7 @@
 use Rattle.std.proofs.Common.{◌≡◌, ◌∙◌, ap, sym, refl, arith, Some, None}
 use Rattle.std.specs.Prelude.{slice_get}
 use Rattle.flow_graph.specs.Layout.{place, spot_at}
-use Rattle.flow_graph.specs.declared.spot.Ends.TheVariants as ends
+use Rattle.graph_lists.specs.declared.spot.Ends.TheVariants as ends
 use Rattle.flow_graph.proofs.Called.{known, unknown, room, called, missed}
 use Rattle.flow_graph.proofs.layout.put_call.Goals as goal
 

@@ -1,14 +1,14 @@
 use Rattle.std.proofs.Common.{◌∙◌, ap, sym, arith, length}
 use Rattle.flow_laws.specs.Graphs.{graph}
 use Rattle.flow_laws.proofs.Turned.{graph_turned}
-use Rattle.flow_graph.specs.Joints.{spot_edges, spot_loops}
-use Rattle.flow_graph.specs.Leaving.{all_outs}
-use Rattle.flow_graph.specs.Spans.{spot_spans}
-use Rattle.flow_graph.specs.Touches.{all_touches}
+use Rattle.graph_lists.specs.Joints.{spot_edges, spot_loops}
+use Rattle.graph_lists.specs.Leaving.{all_outs}
+use Rattle.graph_lists.specs.Spans.{spot_spans}
+use Rattle.graph_lists.specs.Touches.{all_touches}
 use Rattle.flow_graph.proofs.Leaving.{spans_are}
 use Rattle.flow_graph.proofs.Drawn.{edges_are, loops_are}
 use Rattle.flow_graph.proofs.Measured.{entered, short}
-use Rattle.flow_graph.proofs.Touched.{few_loops}
+use Rattle.graph_lists.proofs.Touched.{few_loops}
 use Rattle.flow_graph.proofs.planning.plan.Goals as goal
 
 pub edges_of-requires : goal.edges_of-requires

@@ -14,7 +14,7 @@ use Rattle.peak_laws.specs.Peaks.{IsPeakOf}
 use Rattle.peak_laws.specs.ProgramParts.{program_part}
 use Rattle.peak_laws.proofs.Above.{runs_within}
 use Rattle.peak_laws.proofs.Computed.{is_peak}
-use Rattle.ipet_peak.specs.Trees.{part_of, KeepsWays}
+use Rattle.ipet_peak.specs.Trees.{part_of}
 use Rattle.ipet_peak.proofs.PlanRoom.{HasRoom, plan_room, if_all}
 use Rattle.ipet_peak.proofs.TreeLayers.{keeps_at}
 use Rattle.ipet_peak.proofs.computing.peak.Goals as goal

@@ -1,14 +1,12 @@
 -- Each piece makes a tree of those before it, and all of them the function's.
 use Rattle.std.proofs.lemmas.Grind.{common_steps}
-use Rattle.std.proofs.Common.{Some, rules, arith, ◌^◌, take, [], ◌∷◌, ap, sym, ◌∙◌, subst, refl}
+use Rattle.std.proofs.Common.{Some, rules, arith, ◌^◌, take, ap, sym, ◌∙◌, subst, refl}
 use Rattle.std.specs.Prelude.{IfOk}
-use Rattle.std.proofs.lemmas.Option.{slice_get-get_or}
 use Rattle.flow_graph.proofs.Laid.{if_ok}
 use Rattle.flow_graph.proofs.Unfolded.{got_at}
-use Rattle.peak_laws.specs.Parts as spec
 use Rattle.ipet_peak.specs.Pieces.{part_at, stack_after, parts_made}
-use Rattle.ipet_peak.specs.Trees.{part_of, parts_of, IsTreeOf, EachKeepsWays}
-use Rattle.ipet_peak.proofs.Grown.{makes_of, last_room, Standing, grown_step, none_made, above_length, one_above, one_made, grown}
+use Rattle.ipet_peak.specs.Trees.{parts_of, IsTreeOf, EachKeepsWays}
+use Rattle.ipet_peak.proofs.Grown.{last_room, Standing, grown_step, none_made, above_length, one_above, one_made, grown}
 use Rattle.ipet_peak.proofs.growing.+growing.Goals as goal
 
 pub callee_tree-returns-else-callee-funcs : goal.callee_tree-returns-else-callee-funcs

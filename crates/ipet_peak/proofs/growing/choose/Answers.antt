@@ -1,10 +1,10 @@
 -- A choice is made of the last two trees.
-use Rattle.std.proofs.Common.{◌≤◌, ◌^◌, ◌∷◌, arith, ap, sym, subst, ◌∙◌, refl}
+use Rattle.std.proofs.Common.{◌∷◌, arith, ap, ◌∙◌}
 use Rattle.flow_graph.proofs.Laid.{if_ok}
 use Rattle.peak_laws.specs.Parts as spec
 use Rattle.peak_laws.specs.Magnitudes.{cap_cost}
 use Rattle.ipet_peak.specs.Pieces.{last_part, earlier_parts}
-use Rattle.ipet_peak.specs.Trees.{part_of, parts_of}
+use Rattle.ipet_peak.specs.Trees.{parts_of}
 use Rattle.ipet_peak.proofs.Grown.{makes_of}
 use Rattle.ipet_peak.proofs.growing.choose.Goals as goal
 

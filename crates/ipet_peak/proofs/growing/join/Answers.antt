@@ -1,10 +1,10 @@
 -- Two trees one after the other are made of the last two.
-use Rattle.std.proofs.Common.{◌∷◌, arith, ap, ◌∙◌, refl}
+use Rattle.std.proofs.Common.{◌∷◌, arith, ap, ◌∙◌}
 use Rattle.flow_graph.proofs.Laid.{if_ok}
 use Rattle.peak_laws.specs.Magnitudes.{cap_cost}
 use Rattle.peak_laws.specs.ProgramParts.{sequence}
 use Rattle.ipet_peak.specs.Pieces.{last_part, earlier_parts}
-use Rattle.ipet_peak.specs.Trees.{part_of, parts_of}
+use Rattle.ipet_peak.specs.Trees.{parts_of}
 use Rattle.ipet_peak.proofs.Grown.{makes_of, join_room}
 use Rattle.ipet_peak.proofs.growing.join.Goals as goal
 

@@ -4,7 +4,7 @@ use Rattle.flow_graph.proofs.Laid.{if_ok}
 use Rattle.peak_laws.specs.Parts as spec
 use Rattle.peak_laws.specs.Magnitudes.{cap_cost}
 use Rattle.ipet_peak.specs.Pieces.{earlier_parts}
-use Rattle.ipet_peak.specs.Trees.{part_of, parts_of}
+use Rattle.ipet_peak.specs.Trees.{parts_of}
 use Rattle.ipet_peak.proofs.Grown.{makes_of}
 use Rattle.ipet_peak.proofs.growing.turn_do.Goals as goal
 

@@ -5,7 +5,7 @@ use Rattle.c_tree.specs.Statements.{held}
 use Rattle.c_tree.proofs.ExecLayers.{blocks-For}
 use Rattle.flow_laws.proofs.Sizes.{simple_blocks}
 use Rattle.flow_graph.proofs.Laid.{if_ok}
-use Rattle.flow_graph.proofs.Sums.{drop_is}
+use Rattle.graph_lists.proofs.Sums.{drop_is}
 use Rattle.peak_laws.specs.Parts as spec
 use Rattle.peak_laws.specs.ProgramParts.{list_part}
 use Rattle.ipet_peak.specs.Pieces.{stack_after, parts_above, costs_after}

@@ -1,7 +1,7 @@
 -- The pieces of each function make its part.
 use Rattle.std.proofs.Common.{take, ap, ◌∙◌, sym, refl, arith}
 use Rattle.c_tree.specs.declared.program.Func.{Func}
-use Rattle.ipet_peak.proofs.Grown.{listed_more, listed_all}
+use Rattle.ipet_peak.proofs.Grown.{listed_more}
 use Rattle.ipet_peak.proofs.pieces.function_pieces.Goals as goal
 
 pub loop-func-preserved : goal.loop-func-preserved

@@ -3,7 +3,7 @@ use Rattle.c_tree.specs.declared.value.Way.TheVariants as way
 use Rattle.c_tree.specs.Statements.{Ends, Undefined, after, entered, stored}
 use Rattle.c_run.specs.Machine.{doing, ends_as}
 use Rattle.c_run.specs.Work.{task_work}
-use Rattle.c_steps.specs.Changed.{changed}
+use Rattle.c_ways.specs.Changed.{changed}
 use Rattle.c_run.proofs.Steps.{run_entered}
 use Rattle.c_run.proofs.machine.Machine.plain.Goals as goal
 

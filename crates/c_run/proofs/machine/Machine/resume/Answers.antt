@@ -2,7 +2,7 @@ use Rattle.std.proofs.Common.{[], sym, ap, ◌∙◌, arith}
 use Rattle.c_tree.specs.Statements.{Ends, give}
 use Rattle.c_run.specs.declared.machine.Task.TheVariants as task
 use Rattle.c_run.specs.Machine.{doing, behind, ends_as}
-use Rattle.c_steps.specs.Ways.{returned}
+use Rattle.c_ways.specs.Ways.{returned}
 use Rattle.c_run.specs.Work.{task_work, pending_work}
 use Rattle.c_run.proofs.Steps.{after_nothing, then_onward, come_back_is}
 use Rattle.c_tree.specs.Stores.{with_locals}

@@ -3,7 +3,7 @@ use Rattle.std.specs.Prelude.{slice_get}
 use Rattle.flow_laws.specs.Graphs.{graph}
 use Rattle.flow_graph.specs.Landings.{calls}
 use Rattle.flow_graph.specs.Plans.{Planned}
-use Rattle.flow_graph.specs.declared.spot.Spot.{Spot}
+use Rattle.graph_lists.specs.declared.spot.Spot.{Spot}
 use Rattle.flow_graph.proofs.Landed.{call_at}
 use Rattle.flow_graph.proofs.graph.Plan.call.Goals as goal
 

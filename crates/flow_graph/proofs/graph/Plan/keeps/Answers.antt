@@ -2,9 +2,9 @@ use Rattle.std.proofs.Common.{◌∙◌, ◌≡◌, ap, sym, subst, true}
 use Rattle.std.specs.List.{list_all}
 use Rattle.flow_laws.specs.Graphs.{graph, edges, loops}
 use Rattle.flow_graph.specs.Plans.{Planned, keeps_all}
-use Rattle.flow_graph.specs.Touches.{are_low, kept_by, none_entered}
+use Rattle.graph_lists.specs.Touches.{are_low, kept_by, none_entered}
 use Rattle.flow_graph.proofs.Measured.{limits}
-use Rattle.flow_graph.proofs.Touched.{all_low, few_loops, kept_is}
+use Rattle.graph_lists.proofs.Touched.{all_low, few_loops, kept_is}
 use Rattle.flow_graph.proofs.graph.Plan.keeps.Goals as goal
 
 pub keeps_all-requires : goal.keeps_all-requires

@@ -2,7 +2,7 @@ use Rattle.std.proofs.Common.{◌∙◌, ◌<◌, ◌≤◌, ◌^◌, ap, sym, s
 use Rattle.std.specs.Prelude.{slice_get}
 use Rattle.flow_laws.specs.Graphs.{graph, nodes}
 use Rattle.flow_graph.specs.Plans.{Planned}
-use Rattle.flow_graph.specs.declared.spot.Spot.{Spot}
+use Rattle.graph_lists.specs.declared.spot.Spot.{Spot}
 use Rattle.flow_graph.proofs.Measured.{all_within, cap_at_most, entered, limits, node_at}
 use Rattle.flow_graph.proofs.graph.Plan.node.Goals as goal
 

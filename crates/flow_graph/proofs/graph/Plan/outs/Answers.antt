@@ -1,9 +1,9 @@
 use Rattle.std.proofs.Common.{◌∙◌, ◌<◌, ap, sym, subst, length, arith}
 use Rattle.std.specs.Prelude.{slice_index_or}
 use Rattle.flow_laws.specs.Graphs.{graph, edges}
-use Rattle.flow_graph.specs.Leaving.{AreOuts}
+use Rattle.graph_lists.specs.Leaving.{AreOuts}
 use Rattle.flow_graph.specs.Plans.{Planned}
-use Rattle.flow_graph.specs.declared.onward.Outs.TheVariants.{Nowhere}
+use Rattle.graph_lists.specs.declared.onward.Outs.TheVariants.{Nowhere}
 use Rattle.flow_graph.proofs.Leaving.{table_long, table_index}
 use Rattle.flow_graph.proofs.graph.Plan.outs.Goals as goal
 

@@ -1,8 +1,8 @@
-use Rattle.std.proofs.Common.{◌∙◌, ◌<◌, ◌≡◌, ap, sym, subst, length, arith}
+use Rattle.std.proofs.Common.{◌∙◌, ◌<◌, ap, sym, subst, length, arith}
 use Rattle.flow_laws.specs.Graphs.{graph, edges, loops}
 use Rattle.flow_graph.specs.Plans.{Planned}
-use Rattle.flow_graph.specs.Touches.{touches_of}
-use Rattle.flow_graph.proofs.Touched.{table_long, row_is}
+use Rattle.graph_lists.specs.Touches.{touches_of}
+use Rattle.graph_lists.proofs.Touched.{table_long, row_is}
 use Rattle.flow_graph.proofs.graph.Plan.touches.Goals as goal
 
 pub bounds-as_slice-e : goal.bounds-as_slice-e

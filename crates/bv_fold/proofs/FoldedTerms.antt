@@ -1,0 +1,145 @@
+-- The terms that were folded stay so while further terms are put, and one more is folded.
+use Rattle.std.proofs.Common.{◌≡◌, ◌<◌, ◌≤◌, ℕ, zero, suc, Bool, true, not, List, [], ◌∷◌, ◌++◌, length, map, Option, Some, Result, Ok, Err, ⊎_elim, ℤ, pos, IsTrue, refl, sym, ap, ◌∙◌, subst, arith}
+use Rattle.std.specs.Prelude.{slice_get, slice_index, replicate, Contains, IsSomeAnd, IfOk}
+use Rattle.std.proofs.lemmas.Bool.{and_from, cases_order}
+use Rattle.std.proofs.lemmas.List.{length-append}
+use Rattle.c_tree.specs.declared.program.Input.{Input}
+use Rattle.c_tree.specs.Runs.{are_of}
+use Rattle.bv_term.specs.declared.op.Op.{Op}
+use Rattle.bv_term.specs.declared.op.Op.TheVariants as op
+use Rattle.bv_term.specs.Stores.{Terms, AreTerms, tv, words, fits_store, declared_ty}
+use Rattle.bv_fold.specs.Folding.{operands, is_input, HasNoInput, NoInput, IsConst, IsExtended, IsFold}
+use Rattle.bv_fold.specs.Steps.{AreBelow, renamed, is_const, are_consts, is_over_constants, zeros, AreWords, IsSame, AreSame, HasConstants}
+use Rattle.bv_fold.proofs.Extended.{kept_op, tv_kept, words_count}
+use Rattle.bv_fold.proofs.Renamed.{operands_below, is_input_renamed, operands_renamed}
+use Rattle.bv_fold.proofs.Folds.{fits_at, zeros_fit}
+
+-- ---- further terms
+
+pub longer : (old new : Terms) → IsExtended old new → length old.ops ≤ length new.ops
+longer old new e = omega (arith, ap (λ l. length l) e.ops, length-append old.ops e.further)
+
+fits_before : (old new : Terms) (i : Input) → IsExtended old new → fits_store new i ≡ true → fits_store old i ≡ true
+fits_before old new i e fits = sym (ap (λ l. are_of (map declared_ty l) i.values) e.inputs) ∙ fits
+
+one_further : (old new : Terms) (term folded : ℕ) → IsExtended old new → term < length old.ops → IsSame old term folded → IsSame new term folded
+one_further old new term folded e below same = record {
+  there = omega (arith, same.there, longer old new e);
+  value = λ i fits. tv_kept old new folded i e same.there ∙ same.value i (fits_before old new i e fits) ∙ sym (tv_kept old new term i e below);
+}
+
+at_more : (xs : List ℕ) (y t : ℕ) → t < length xs → slice_index (xs ++ y ∷ []) t ≡ slice_index xs t
+at_more [] y t h = absurd (omega arith)
+at_more (x ∷ xs) y zero h = refl
+at_more (x ∷ xs) y (suc t) h = at_more xs y t (omega arith)
+
+at_last : (xs : List ℕ) (y t : ℕ) → t ≡ length xs → slice_index (xs ++ y ∷ []) t ≡ y
+at_last [] y zero h = refl
+at_last [] y (suc t) h = absurd (omega arith)
+at_last (x ∷ xs) y zero h = absurd (omega arith)
+at_last (x ∷ xs) y (suc t) h = at_last xs y t (omega arith)
+
+-- what holds of the elements so far and of one more
+pub each_more : (P : ℕ → ℕ → Type 0) (xs : List ℕ) (y : ℕ) → ((t : ℕ) → t < length xs → P t (slice_index xs t)) → P (length xs) y
+    → (t : ℕ) → t < length (xs ++ y ∷ []) → P t (slice_index (xs ++ y ∷ []) t)
+each_more P xs y before last t h =
+    ⊎_elim (λ same. subst (P t) (sym (at_last xs y t same)) (subst (λ n. P n y) (sym same) last))
+    (λ other. ⊎_elim (λ below. subst (P t) (sym (at_more xs y t below)) (before t below)) (λ above. absurd (past h above)) other)
+    (cases_order t (length xs))
+  where
+    past : t < length (xs ++ y ∷ []) → ¬ (length xs < t)
+    past below above = absurd (omega (arith, below, above, length-append xs (y ∷ [])))
+
+pub same_more : (old new : Terms) (folded all : List ℕ) (term x : ℕ) → IsExtended old new → AreSame old folded → length folded ≡ term → term < length old.ops
+    → IsSame new term x → all ≡ folded ++ x ∷ [] → AreSame new all
+same_more old new folded all term x e same count below one is = subst (AreSame new) (sym is) (record {
+  each = each_more (IsSame new) folded x
+      (λ t h. one_further old new t (slice_index folded t) e (omega (arith, count, h, below)) (same.each t h))
+      (subst (λ n. IsSame new n x) (sym count) one);
+})
+
+pub words_more : (old new : Terms) (ws : List ℕ) → IsExtended old new → length ws ≤ length old.ops → AreWords old ws → AreWords new ws
+words_more old new ws e few are = record {
+  each = λ t h. are.each t h ∙ sym (tv_kept old new t (zeros old) e (omega (arith, h, few))) ∙ ap (λ (l : List Bool). tv new t (record { values = replicate (length l) (pos 0) })) (sym e.inputs);
+}
+
+-- ---- constants
+
+const_further : (old new : Terms) (s : ℕ) → IsExtended old new → IsConst (slice_get old.ops s) → IsConst (slice_get new.ops s)
+const_further old new s e is = (is.0, ap (λ l. slice_get l s) e.ops ∙ kept_op old.ops e.further s (op.Const is.0) is.1)
+
+-- the folds of terms without an input are constants
+pub constant_more : (first old new : Terms) (folded all : List ℕ) (term x : ℕ) → IsExtended old new → length folded ≡ term
+    → ((t : ℕ) → t < length folded → HasNoInput first.ops t → IsConst (slice_get old.ops (slice_index folded t)))
+    → (HasNoInput first.ops term → IsConst (slice_get new.ops x)) → all ≡ folded ++ x ∷ []
+    → (t : ℕ) → t < length all → HasNoInput first.ops t → IsConst (slice_get new.ops (slice_index all t))
+constant_more first old new folded all term x e count consts one is =
+    subst (λ (l : List ℕ). (t : ℕ) → t < length l → HasNoInput first.ops t → IsConst (slice_get new.ops (slice_index l t))) (sym is)
+    (each_more (λ t y. HasNoInput first.ops t → IsConst (slice_get new.ops y)) folded x
+    (λ t h no_input. const_further old new (slice_index folded t) e (consts t h no_input))
+    (subst (λ n. HasNoInput first.ops n → IsConst (slice_get new.ops x)) (sym count) one))
+
+are_consts_mapped : (ops : List Op) (to : ℕ → ℕ) (ss : List ℕ) → ((s : ℕ) → Contains ss s → is_const (slice_get ops (to s)) ≡ true) → are_consts ops (map to ss) ≡ true
+are_consts_mapped ops to [] each = refl
+are_consts_mapped ops to (s ∷ []) each = each s (0, omega arith, refl)
+are_consts_mapped ops to (s ∷ t ∷ ss) each =
+    and_from (is_const (slice_get ops (to s))) (are_consts ops (map to (t ∷ ss))) (each s (0, omega arith, refl))
+    (are_consts_mapped ops to (t ∷ ss) (λ x h. each x (suc h.0, omega (arith, h.1), h.2)))
+
+below_of : (k : ℕ) (ss : List ℕ) (s : ℕ) → AreBelow k ss → Contains ss s → s < k
+below_of k [] s b h = absurd (omega (arith, h.1))
+below_of k (x ∷ ss) s b (zero, h, e) = subst (λ n. n < k) e b.0
+below_of k (x ∷ ss) s b (suc n, h, e) = below_of k ss s b.1 (n, omega (arith, h), e)
+
+const_is : (o : Option Op) → IsConst o → is_const o ≡ true
+const_is o is = ap is_const is.1
+
+-- no input below a term: its operator is no input, and the folds of its operands are constants
+pub has_constants : (first now : Terms) (folded : List ℕ) (term : ℕ) → IsExtended first now → AreTerms now → length folded ≡ term
+    → ((t : ℕ) → t < length folded → HasNoInput first.ops t → IsConst (slice_get now.ops (slice_index folded t)))
+    → HasNoInput first.ops term → HasConstants now.ops folded term
+has_constants first now folded term e fit count consts (NoInput _ o is other below) =
+    let to : ℕ → ℕ = slice_index folded in
+    let here : slice_get now.ops term ≡ Some o = ap (λ l. slice_get l term) e.ops ∙ kept_op first.ops e.further term o is in
+    let within : AreBelow term (operands o) = operands_below (length now.inputs) term o (fits_at now term o fit here) in
+    let mapped : are_consts now.ops (map to (operands o)) ≡ true =
+    are_consts_mapped now.ops to (operands o) (λ s h. const_is (slice_get now.ops (to s)) (consts s (omega (arith, count, below_of term (operands o) s within h)) (below s h))) in
+    let over : is_over_constants now.ops (renamed to o) ≡ true =
+    and_from (not (is_input (renamed to o))) (are_consts now.ops (operands (renamed to o))) (ap not (is_input_renamed to o ∙ other)) (ap (are_consts now.ops) (operands_renamed to o) ∙ mapped) in
+    subst (λ x. IsSomeAnd x (λ o. IsTrue (is_over_constants now.ops (renamed to o)))) (sym here) over
+
+-- ---- the outcome
+
+pub if_ok_more : {A E : Type 0} (P Q : A → Type 0) (r : Result A E) → IfOk r P → ((x : A) → P x → Q x) → IfOk r Q
+if_ok_more P Q (Ok x) h more = more x h
+if_ok_more P Q (Err e) h more = tt
+
+if_ok_both : {A E : Type 0} (P Q R : A → Type 0) (r : Result A E) → IfOk r P → IfOk r Q → ((x : A) → P x → Q x → R x) → IfOk r R
+if_ok_both P Q R (Ok x) h k both = both x h k
+if_ok_both P Q R (Err e) h k both = tt
+
+pub folded_is : {E : Type 0} (r : Result ℕ E) (first old new : Terms) (folded : List ℕ) (term : ℕ) → IsExtended first old → IsExtended old new
+    → AreTerms old → length folded ≡ term → term < length first.ops
+    → ((t : ℕ) → t < length folded → HasNoInput first.ops t → IsConst (slice_get old.ops (slice_index folded t)))
+    → IfOk r (λ t. IsSame new term t) → IfOk r (λ t. HasConstants old.ops folded term → IsConst (slice_get new.ops t)) → IfOk r (λ t. IsFold first new term t)
+folded_is r first old new folded term d e fit count below consts same const =
+    if_ok_both (IsSame new term) (λ t. HasConstants old.ops folded term → IsConst (slice_get new.ops t)) (IsFold first new term) r same const
+    (λ t is_same is_const. record {
+      there = is_same.there;
+      same = λ i fits.
+          is_same.value i (ap (λ l. are_of (map declared_ty l) i.values) (e.inputs ∙ d.inputs) ∙ fits)
+          ∙ tv_kept old new term i e (omega (arith, below, longer first old d)) ∙ tv_kept first old term i d below;
+      constant = λ no_input. is_const (has_constants first old folded term d fit count consts no_input);
+    })
+
+-- ---- words at zeros
+
+pub zeros_as : (terms : Terms) (xs : List ℤ) → xs ≡ replicate (length terms.inputs) (pos 0) → fits_store terms (record { values = xs }) ≡ true
+zeros_as terms xs is = ap (λ l. are_of (map declared_ty terms.inputs) l) is ∙ zeros_fit terms
+
+pub words_are : (terms : Terms) (xs : List ℤ) (ws : List ℕ) → xs ≡ replicate (length terms.inputs) (pos 0) → ws ≡ words terms.ops xs → AreWords terms ws
+unfolding tv
+words_are terms xs ws is value = record { each = λ t h. ap (λ l. slice_index l t) (value ∙ ap (words terms.ops) is) }
+
+pub words_as_many : (terms : Terms) (xs : List ℤ) (ws : List ℕ) → ws ≡ words terms.ops xs → length ws ≡ length terms.ops
+words_as_many terms xs ws value = ap (λ l. length l) value ∙ words_count terms (record { values = xs })

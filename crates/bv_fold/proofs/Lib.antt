@@ -1,0 +1,5 @@
+pub mod Extended
+pub mod Renamed
+pub mod Folds
+pub mod Putting
+pub mod FoldedTerms

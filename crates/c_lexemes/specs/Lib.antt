@@ -1,0 +1,4 @@
+pub mod Directives
+pub mod Lengths
+pub mod Marks
+pub mod Unread

@@ -1,6 +1,0 @@
-use Rattle.std.proofs.Common.{◌≡◌, ◌++◌, drop}
-use Rattle.c_tree.specs.Values.{converted}
-use Rattle.c_steps.proofs.simple_statements.converted.Given as goal
-
-abbrev pub invariant-loop-v : goal.invariant-loop-v
-invariant-loop-v l = l.list ++ converted l.ty (drop l.v-index l.from) ≡ converted l.ty l.from

@@ -1,0 +1,6 @@
+use Rattle.std.proofs.Common.{◌≡◌, ◌++◌, drop}
+use Rattle.c_tree.specs.Values.{converted}
+use Rattle.c_ways.proofs.arrays.converted.Given as goal
+
+abbrev pub invariant-loop-v : goal.invariant-loop-v
+invariant-loop-v l = l.list ++ converted l.ty (drop l.v-index l.from) ≡ converted l.ty l.from

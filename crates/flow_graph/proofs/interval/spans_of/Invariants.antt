@@ -1,7 +1,0 @@
-use Rattle.std.proofs.Common.{◌≡◌, ◌++◌, drop}
-use Rattle.flow_graph.specs.Spans.{spot_spans}
-use Rattle.flow_graph.proofs.interval.spans_of.Given as goal
-
--- the loop copies so far, and then the rest, are all
-abbrev pub invariant-loop-test : goal.invariant-loop-test
-invariant-loop-test l = l.spans ++ spot_spans l.test (drop l.test l.spots) ≡ spot_spans 0 l.spots

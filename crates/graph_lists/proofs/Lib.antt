@@ -1,0 +1,4 @@
+pub mod AmountLayers
+pub mod Sums
+pub mod Steps
+pub mod Touched

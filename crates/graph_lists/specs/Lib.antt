@@ -1,0 +1,5 @@
+pub mod Amounts
+pub mod Joints
+pub mod Leaving
+pub mod Spans
+pub mod Touches

@@ -1,0 +1,2 @@
+pub mod DrivenInputs
+pub mod Findings

@@ -1,0 +1,5 @@
+pub mod WeightLayers
+mod Sums
+pub mod Seeking
+mod Copies
+mod Counts
