@@ -91,8 +91,10 @@ no_line [] l back x h = absurd (cc)
 no_line (y ∷ front) l back x h = absurd (cc)
 
 empty_holds_none : (m : Mode) (n : ℕ) (line : List ℕ) → IsBoundLine m n line → Holds [] line → ⊥
-empty_holds_none Bound n line b holds = no_line holds.front _ holds.back _ (holds.is ∙ ap (λ l. holds.front ++ (l ++ holds.back)) b)
-empty_holds_none Ipet n line b holds = no_line holds.front _ holds.back _ (holds.is ∙ ap (λ l. holds.front ++ (l ++ holds.back)) b)
+empty_holds_none Bound n line b holds =
+    no_line holds.front (codes "ound " ++ decimal n ++ codes "\n") holds.back 98 (holds.is ∙ ap (λ l. holds.front ++ (l ++ holds.back)) b)
+empty_holds_none Ipet n line b holds =
+    no_line holds.front (codes "pet " ++ decimal n ++ codes "\n") holds.back 105 (holds.is ∙ ap (λ l. holds.front ++ (l ++ holds.back)) b)
 empty_holds_none Squeeze n line b holds = b
 empty_holds_none Blocks n line b holds = b
 empty_holds_none Run n line b holds = b

@@ -1,4 +1,5 @@
 pub mod Agreeing
+pub mod Asked
 pub mod Written
 pub mod WholeLines
 pub mod Bounds

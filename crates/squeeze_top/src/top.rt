@@ -114,9 +114,12 @@ pub fn plain_mode<S: Shelf, K: Sink>(
     // The job is one that words ask for: its mode is built.
     requires { IsJob job.now }
 
-    // What each status says of what was written; before want of memory that is nothing.
+    // What each status says of what was written; before want of memory and at a fault of the shelf that is nothing. No
+    // mode of today ends inexact.
     ensures wrote { Wrote result job.now (S.contents shelf.old) (K.written out.old) (K.written out.new) }
     ensures memory { result ≡ Status.NoMemory → K.written out.new ≡ K.written out.old }
+    ensures unread { result ≡ Status.ReadFault → K.written out.new ≡ K.written out.old }
+    ensures exact { result ≢ Status.Inexact }
 
     // A fault of the shelf or the sink is told only where its count rose, and none is passed over.
     ensures read_fault { result ≡ Status.ReadFault → Rose (S.faults shelf.old) (S.faults shelf.new) }
@@ -170,6 +173,7 @@ pub fn plain_mode<S: Shelf, K: Sink>(
 ///
 /// The words are `MODE FILE`, and then, where they are given, `--costs NAME`, `--entry NAME` and `--input TEXT`, in
 /// this order. The entry is `main` where none is named, and the input is empty where none is given.
+#[tactic(auto, using(crate::proofs::Asked::asked_or_not))]
 pub fn wcet_main<R: Threads + Wait + Sync, S: Shelf, K: Sink, G: Gate + Sync>(
     _rt: &R,
     alloc: Global,
@@ -178,16 +182,21 @@ pub fn wcet_main<R: Threads + Wait + Sync, S: Shelf, K: Sink, G: Gate + Sync>(
     out: &mut K,
     _gate: &G,
 ) -> Status
-    // Words ask for one job at most.
+    // Words ask for one job, or for none.
+    ensures asked { ((job : Job) × AskFor (map (λ w. w.now) words.now) job)
+        ⊎ ((job : Job) → ¬ (AskFor (map (λ w. w.now) words.now) job)) }
     ensures one_job { (a b : Job) → AskFor (map (λ w. w.now) words.now) a
         → AskFor (map (λ w. w.now) words.now) b → a ≡ b }
 
-    // What each status says of what was written; before want of memory that is nothing.
+    // What each status says of what was written; before want of memory and at a fault of the shelf that is nothing. No
+    // mode of today ends inexact.
     ensures wrote { (job : Job) → AskFor (map (λ w. w.now) words.now) job
         → Wrote result job (S.contents shelf.old) (K.written out.old) (K.written out.new) }
     ensures no_job { ((job : Job) → ¬ (AskFor (map (λ w. w.now) words.now) job))
         → WroteNoJob result (K.written out.old) (K.written out.new) }
     ensures memory { result ≡ Status.NoMemory → K.written out.new ≡ K.written out.old }
+    ensures unread { result ≡ Status.ReadFault → K.written out.new ≡ K.written out.old }
+    ensures exact { result ≢ Status.Inexact }
 
     // A fault of the shelf or the sink is told only where its count rose, and none is passed over.
     ensures read_fault { result ≡ Status.ReadFault → Rose (S.faults shelf.old) (S.faults shelf.new) }

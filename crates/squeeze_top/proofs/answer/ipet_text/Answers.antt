@@ -1,5 +1,6 @@
 -- What is written is how many block copies there are, and the optimum, which no run exceeds.
-use Rattle.std.proofs.Common.{ap, ◌∙◌}
+use Rattle.std.proofs.Common.{ap, subst, ◌∙◌}
+use Rattle.std.specs.Prelude.{◌≤◌}
 use Rattle.squeeze_top.specs.Answers.{ipet_lines}
 use Rattle.squeeze_top.proofs.answer.ipet_text.Goals as goal
 
@@ -10,6 +11,6 @@ returns c =
       optimum = c.in_ok-peak.ensures.peak.optimum;
       above = c.in_ok-peak.ensures.above;
       fits = c.in_ok-ipet_lines.ensures.fits;
-      few = c.copies.ensures.few;
+      few = subst (λ k. k ≤ 1024) c.copies.ensures.count c.copies.ensures.few;
       lines = c.in_ok-ipet_lines.ensures.lines ∙ ap (λ n. ipet_lines n c.in_ok-peak.peak.value) c.copies.ensures.count;
     }
