@@ -6,6 +6,7 @@ use Rattle.wc_outside.specs.Growth.{Grew}
 use Rattle.front_end.specs.declared.status.Status.TheVariants as status
 use Rattle.front_end.specs.Lines.{line_of}
 use Rattle.front_end.specs.Statuses.{status_of}
+use Rattle.squeeze_top.specs.Jobs.{IsHalt}
 use Rattle.squeeze_top.proofs.Agreeing.{one_answer, answered_whole, answered_stands, served_stands, one_status}
 use Rattle.squeeze_top.proofs.Bounds.{bound_holds}
 use Rattle.squeeze_top.proofs.Written.{wrote_answer, wrote_refusal, wrote_nothing, given, refused}
@@ -55,7 +56,9 @@ pub returns-in-Err-Refused-clause-wrote : goal.returns-in-Err-Refused-clause-wro
 returns-in-Err-Refused-clause-wrote g c =
     wrote_refusal c.refuse.result c.args.job.now (g.S.Shelf.contents c.args.shelf.now)
         (g.K.Sink.written c.args.out.now) (g.K.Sink.written c.refuse.new.out) c.in-Err-Refused.refusal
-        (Rose (g.K.Sink.faults c.args.out.now) (g.K.Sink.faults c.refuse.new.out)) c.in-Err-Refused.ensures.halted
+        (Rose (g.K.Sink.faults c.args.out.now) (g.K.Sink.faults c.refuse.new.out))
+        (subst (λ h. IsHalt h c.args.job.now (g.S.Shelf.contents c.args.shelf.now)) c.in-Err-Refused.field-0-is
+            c.in-Err-Refused.ensures.halted)
         c.refuse.ensures.told c.refuse.ensures.part c.refuse.ensures.memory c.refuse.ensures.refused
 
 pub returns-in-Err-Refused-clause-bounds : goal.returns-in-Err-Refused-clause-bounds
@@ -72,13 +75,17 @@ pub returns-in-Err-Refused-clause-answered : goal.returns-in-Err-Refused-clause-
 returns-in-Err-Refused-clause-answered g c =
     λ s text some answer unread unwritten.
         absurd (answered_stands c.args.job.now (g.S.Shelf.contents c.args.shelf.now) s text
-            c.in-Err-Refused.refusal some answer c.in-Err-Refused.ensures.halted)
+            c.in-Err-Refused.refusal some answer
+            (subst (λ h. IsHalt h c.args.job.now (g.S.Shelf.contents c.args.shelf.now)) c.in-Err-Refused.field-0-is
+                c.in-Err-Refused.ensures.halted))
 
 pub returns-in-Err-Refused-clause-complete : goal.returns-in-Err-Refused-clause-complete
 returns-in-Err-Refused-clause-complete g c =
     λ some served unread unwritten.
         absurd (served_stands c.args.job.now (g.S.Shelf.contents c.args.shelf.now) c.in-Err-Refused.refusal some
-            served c.in-Err-Refused.ensures.halted)
+            served
+            (subst (λ h. IsHalt h c.args.job.now (g.S.Shelf.contents c.args.shelf.now)) c.in-Err-Refused.field-0-is
+                c.in-Err-Refused.ensures.halted))
 
 pub returns-in-Err-Refused-clause-refused : goal.returns-in-Err-Refused-clause-refused
 returns-in-Err-Refused-clause-refused g c =
@@ -88,7 +95,8 @@ returns-in-Err-Refused-clause-refused g c =
                 (line_of c.in-Err-Refused.refusal))
             (λ e. unwritten ((c.refuse.ensures.part e).1)) c.refuse.ensures.told
             (one_status c.args.job.now (g.S.Shelf.contents c.args.shelf.now) c.in-Err-Refused.refusal refusal some
-                c.in-Err-Refused.ensures.halted are)
+                (subst (λ h. IsHalt h c.args.job.now (g.S.Shelf.contents c.args.shelf.now)) c.in-Err-Refused.field-0-is
+                    c.in-Err-Refused.ensures.halted) are)
 
 -- ---- nothing was written
 

@@ -1,6 +1,5 @@
 -- What is said of the job that was read is said of each job that the words ask for; refused words ask for none.
-use Rattle.std.proofs.Common.{subst, sym, refl, map}
-use Rattle.wc_outside.specs.Growth.{Grew}
+use Rattle.std.proofs.Common.{subst, ap, refl, map, Err}
 use Rattle.front_end.specs.declared.status.Status.TheVariants as status
 use Rattle.squeeze_top.specs.Jobs.{Give, IsAnswer}
 use Rattle.squeeze_top.specs.Lines.{WroteBound}
@@ -33,26 +32,26 @@ returns-in-Ok-clause-answered g c =
 -- ---- the words are refused
 
 pub returns-in-Err-Refused-clause-wrote : goal.returns-in-Err-Refused-clause-wrote
-returns-in-Err-Refused-clause-wrote g c = λ job ask. absurd (c.in-Err-Refused.ensures.refused refl job ask)
+returns-in-Err-Refused-clause-wrote g c = λ job ask. absurd (c.in-Err-Refused.ensures.refused (ap Err c.in-Err-Refused.field-0-is) job ask)
 
 pub returns-in-Err-Refused-clause-bounds : goal.returns-in-Err-Refused-clause-bounds
 returns-in-Err-Refused-clause-bounds g c =
-    λ job n p t ask some small b give. absurd (c.in-Err-Refused.ensures.refused refl job ask)
+    λ job n p t ask some small b give. absurd (c.in-Err-Refused.ensures.refused (ap Err c.in-Err-Refused.field-0-is) job ask)
 
 pub returns-in-Err-Refused-clause-one_answer : goal.returns-in-Err-Refused-clause-one_answer
 returns-in-Err-Refused-clause-one_answer g c = λ job. one_answer job (g.S.Shelf.contents c.args.shelf.now)
 
 pub returns-in-Err-Refused-clause-answered : goal.returns-in-Err-Refused-clause-answered
 returns-in-Err-Refused-clause-answered g c =
-    λ job s text ask some answer unread unwritten. absurd (c.in-Err-Refused.ensures.refused refl job ask)
+    λ job s text ask some answer unread unwritten. absurd (c.in-Err-Refused.ensures.refused (ap Err c.in-Err-Refused.field-0-is) job ask)
 
 pub returns-in-Err-Refused-clause-complete : goal.returns-in-Err-Refused-clause-complete
 returns-in-Err-Refused-clause-complete g c =
-    λ job ask some served unread unwritten. absurd (c.in-Err-Refused.ensures.refused refl job ask)
+    λ job ask some served unread unwritten. absurd (c.in-Err-Refused.ensures.refused (ap Err c.in-Err-Refused.field-0-is) job ask)
 
 pub returns-in-Err-Refused-clause-refused : goal.returns-in-Err-Refused-clause-refused
 returns-in-Err-Refused-clause-refused g c =
-    λ job refusal ask some are unread unwritten. absurd (c.in-Err-Refused.ensures.refused refl job ask)
+    λ job refusal ask some are unread unwritten. absurd (c.in-Err-Refused.ensures.refused (ap Err c.in-Err-Refused.field-0-is) job ask)
 
 -- ---- nothing was written
 
