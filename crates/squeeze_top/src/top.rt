@@ -173,7 +173,6 @@ pub fn plain_mode<S: Shelf, K: Sink>(
 ///
 /// The words are `MODE FILE`, and then, where they are given, `--costs NAME`, `--entry NAME` and `--input TEXT`, in
 /// this order. The entry is `main` where none is named, and the input is empty where none is given.
-#[tactic(auto, using(crate::proofs::Asked::asked_or_not))]
 pub fn wcet_main<R: Threads + Wait + Sync, S: Shelf, K: Sink, G: Gate + Sync>(
     _rt: &R,
     alloc: Global,

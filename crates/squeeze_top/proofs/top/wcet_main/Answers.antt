@@ -1,9 +1,10 @@
 -- What is said of the job that was read is said of each job that the words ask for; refused words ask for none.
-use Rattle.std.proofs.Common.{subst, ap, refl, map, Err}
+use Rattle.std.proofs.Common.{subst, ap, refl, map, inr, Err}
 use Rattle.front_end.specs.declared.status.Status.TheVariants as status
 use Rattle.squeeze_top.specs.Jobs.{Give, IsAnswer}
 use Rattle.squeeze_top.specs.Lines.{WroteBound}
 use Rattle.squeeze_top.proofs.Agreeing.{one_answer}
+use Rattle.squeeze_top.proofs.Asked.{asked_or_not}
 use Rattle.squeeze_top.proofs.Bounds.{bound_holds}
 use Rattle.squeeze_top.proofs.Written.{wrote_nothing}
 use Rattle.squeeze_top.proofs.top.wcet_main.Goals as goal
@@ -31,6 +32,9 @@ returns-in-Ok-clause-answered g c =
 
 -- ---- the words are refused
 
+pub returns-in-Err-Refused-clause-asked : goal.returns-in-Err-Refused-clause-asked
+returns-in-Err-Refused-clause-asked g c = inr (c.in-Err-Refused.ensures.refused (ap Err c.in-Err-Refused.field-0-is))
+
 pub returns-in-Err-Refused-clause-wrote : goal.returns-in-Err-Refused-clause-wrote
 returns-in-Err-Refused-clause-wrote g c = λ job ask. absurd (c.in-Err-Refused.ensures.refused (ap Err c.in-Err-Refused.field-0-is) job ask)
 
@@ -54,6 +58,9 @@ returns-in-Err-Refused-clause-refused g c =
     λ job refusal ask some are unread unwritten. absurd (c.in-Err-Refused.ensures.refused (ap Err c.in-Err-Refused.field-0-is) job ask)
 
 -- ---- nothing was written
+
+pub returns-in-Err-NoMemory-clause-asked : goal.returns-in-Err-NoMemory-clause-asked
+returns-in-Err-NoMemory-clause-asked g c = asked_or_not (map (λ w. w.now) c.args.words.now)
 
 pub returns-in-Err-NoMemory-clause-bounds : goal.returns-in-Err-NoMemory-clause-bounds
 returns-in-Err-NoMemory-clause-bounds g c =
