@@ -1,6 +1,6 @@
 -- Each whole line in which a bound was printed is above every run of the program and the costs that the texts give.
-use Rattle.std.proofs.Common.{◌≡◌, ℕ, zero, suc, ◌<◌, ◌^◌, List, [], ◌∷◌, ◌++◌, take, drop, Option, Some, None, refl, sym, ◌∙◌, ap, subst, arith}
-use Rattle.std.specs.Prelude.{◌≤◌, IsSome, option_map, codes}
+use Rattle.std.proofs.Common.{◌≡◌, ℕ, zero, suc, ◌<◌, ◌^◌, List, [], ◌∷◌, ◌++◌, take, drop, Option, Some, refl, sym, ◌∙◌, ap, subst, arith}
+use Rattle.std.specs.Prelude.{IsSome, option_map, codes}
 use Rattle.std.specs.Fmt.{decimal}
 use Rattle.wc_outside.specs.Contents.{Files}
 use Rattle.wc_outside.specs.Growth.{Grew, GrewByPrefix}
@@ -13,8 +13,8 @@ use Rattle.word_line.specs.declared.job.Job.{Job}
 use Rattle.front_end.specs.declared.status.Status.{Status}
 use Rattle.front_end.specs.declared.status.Status.TheVariants as status
 use Rattle.front_end.specs.Refusing.{HasInput}
-use Rattle.squeeze_top.specs.Answers.{bound_line, ipet_line, Tells, IsBoundLine}
-use Rattle.squeeze_top.specs.Jobs.{input_of, Give, IsAnswer}
+use Rattle.squeeze_top.specs.Answers.{Tells, IsBoundLine}
+use Rattle.squeeze_top.specs.Jobs.{input_of, Give}
 use Rattle.squeeze_top.specs.Lines.{AreLines, WroteLine, WroteBound}
 use Rattle.squeeze_top.specs.Written.{MayBeWritten, Wrote}
 use Rattle.squeeze_top.specs.Written.MayBeWritten.{Empty, Answer, Line}
@@ -36,6 +36,7 @@ cancel a b c h = behind a (from_some (a ++ b) (a ++ c) h)
   where
     from_some : (x y : List ℕ) → Some x ≡ Some y → x ≡ y
     from_some x y e = cc
+
     behind : (a : List ℕ) → a ++ b ≡ a ++ c → b ≡ c
     behind [] e = e
     behind (x ∷ a) e = let tail : a ++ b ≡ a ++ c = cc in behind a tail
@@ -60,7 +61,7 @@ held_in_part old new text line part w =
       front = h.front;
       back = h.back ++ drop part.count text;
       is = sym (take_drop part.count text) ∙ ap (λ l. l ++ drop part.count text) h.is ∙ assoc h.front (line ++ h.back) (drop part.count text)
-        ∙ ap (λ l. h.front ++ l) (assoc line h.back (drop part.count text));
+          ∙ ap (λ l. h.front ++ l) (assoc line h.back (drop part.count text));
       lines = h.lines;
     }
 
@@ -74,10 +75,10 @@ above : (m : Mode) (p : Program) (t : Costs) (input : List ℕ) (s : Status) (te
 above Squeeze p t input s text line n small h b holds = absurd h
 above Bound p t input s text line n small h b holds =
     told_bound p t h.1.bound n (bound_told h.1.bound n holds.front holds.back h.1.fits small holds.lines
-        (sym h.1.line ∙ holds.is ∙ ap (λ l. holds.front ++ (l ++ holds.back)) b)) h.1.above
+    (sym h.1.line ∙ holds.is ∙ ap (λ l. holds.front ++ (l ++ holds.back)) b)) h.1.above
 above Ipet p t input s text line n small h b holds =
     told_bound p t h.1.bound n (ipet_told _ h.1.bound n holds.front holds.back (omega (arith, h.1.few)) h.1.fits small holds.lines
-        (sym h.1.lines ∙ holds.is ∙ ap (λ l. holds.front ++ (l ++ holds.back)) b)) h.1.above
+    (sym h.1.lines ∙ holds.is ∙ ap (λ l. holds.front ++ (l ++ holds.back)) b)) h.1.above
 above Blocks p t input s text line n small h b holds = absurd b
 above Run p t input s text line n small h b holds = absurd b
 above Print p t input s text line n small h b holds = absurd b

@@ -1,5 +1,5 @@
 -- A whole line of a text of one or two lines is one of these.
-use Rattle.std.proofs.Common.{◌≡◌, ℕ, ◌+◌, ◌%◌, ◌^◌, ◌<◌, ◌≤◌, ◌⊎◌, inl, inr, List, [], ◌∷◌, ◌++◌, length, refl, sym, ◌∙◌, ap, subst, arith, length-append}
+use Rattle.std.proofs.Common.{◌≡◌, ℕ, ◌+◌, ◌%◌, ◌^◌, ◌<◌, ◌⊎◌, inl, inr, List, [], ◌∷◌, ◌++◌, length, refl, sym, ◌∙◌, ap, arith, length-append}
 use Rattle.std.specs.Prelude.{codes}
 use Rattle.std.specs.Fmt.{decimal}
 use Rattle.std.specs.Str.Parse.{digits_value}
@@ -98,7 +98,7 @@ bound_told m n front rest small_m small_n lines same =
     let w = codes "bound " ++ decimal m in
     let v = codes "bound " ++ decimal n in
     let is : w ≡ v = one_line w v front rest (numbered (codes "bound ") m bound_feedless small_m) (numbered (codes "bound ") n bound_feedless small_n) lines
-        (same ∙ ap (λ l. front ++ l) (assoc v (10 ∷ []) rest)) in
+    (same ∙ ap (λ l. front ++ l) (assoc v (10 ∷ []) rest)) in
     let tail : decimal m ≡ decimal n = cc in
     same_number m n small_m small_n tail
 
@@ -120,7 +120,7 @@ ipet_told copies m n front rest small small_m small_n lines same =
     let u = codes "ipet " ++ decimal m in
     let v = codes "ipet " ++ decimal n in
     found (two_lines w u v front rest (numbered (codes "blocks ") copies blocks_feedless small) (numbered (codes "ipet ") m ipet_feedless small_m)
-        (numbered (codes "ipet ") n ipet_feedless small_n) lines (sym (split_lines copies m) ∙ same ∙ ap (λ l. front ++ l) (assoc v (10 ∷ []) rest)))
+    (numbered (codes "ipet ") n ipet_feedless small_n) lines (sym (split_lines copies m) ∙ same ∙ ap (λ l. front ++ l) (assoc v (10 ∷ []) rest)))
   where
     found : (codes "blocks " ++ decimal copies ≡ codes "ipet " ++ decimal n) ⊎ (codes "ipet " ++ decimal m ≡ codes "ipet " ++ decimal n) → m ≡ n
     found (inl h) = let first : 98 ≡ 105 = ap mark h in absurd (omega (arith, first))

@@ -1,8 +1,7 @@
 -- What was written, by the status.
-use Rattle.std.proofs.Common.{◌≡◌, ℕ, ◌⊎◌, inl, inr, List, [], ◌++◌, length, zero, take, Option, Some, None, refl, sym, ◌∙◌, ap, subst, arith}
-use Rattle.std.specs.Prelude.{◌≢◌, ◌≤◌, option_map}
+use Rattle.std.proofs.Common.{◌≡◌, ℕ, ◌⊎◌, inl, inr, List, [], Option, Some, None, refl, sym, ◌∙◌, ap, subst, arith}
+use Rattle.std.specs.Prelude.{◌≢◌}
 use Rattle.std.proofs.lemmas.List.{append-nil}
-use Rattle.wc_outside.specs.Causes.{Rose}
 use Rattle.wc_outside.specs.Contents.{Files}
 use Rattle.wc_outside.specs.Growth.{Grew, GrewByPrefix}
 use Rattle.word_line.specs.declared.job.Job.{Job}
@@ -12,7 +11,7 @@ use Rattle.front_end.specs.declared.status.Status.TheVariants as status
 use Rattle.front_end.specs.Lines.{line_of}
 use Rattle.front_end.specs.Statuses.{status_of}
 use Rattle.squeeze_top.specs.Jobs.{IsAnswer, AreRefused}
-use Rattle.squeeze_top.specs.Written.{MayBeWritten, WrotePart, Wrote}
+use Rattle.squeeze_top.specs.Written.{WrotePart, Wrote}
 use Rattle.squeeze_top.specs.Written.MayBeWritten.{Empty, Answer, Line}
 
 pub grew_nothing : (old new : Option (List ℕ)) → new ≡ old → Grew old new []

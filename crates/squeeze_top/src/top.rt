@@ -105,12 +105,7 @@ fn refuse_words<K: Sink>(out: &mut K) -> Status
 /// kinds and bounds; the input of a run; the table's bytes and their size; the table's costs; the limits of the flat
 /// graph; and a fault of the sink. A fault of the shelf stands where its file is read. Want of memory may come before
 /// any of them. The clauses that speak of texts hold where the shelf tells its contents.
-pub fn plain_mode<S: Shelf, K: Sink>(
-    alloc: Global,
-    job: &Job,
-    shelf: &mut S,
-    out: &mut K,
-) -> Status
+pub fn plain_mode<S: Shelf, K: Sink>(alloc: Global, job: &Job, shelf: &mut S, out: &mut K) -> Status
     // The job is one that words ask for: its mode is built.
     requires { IsJob job.now }
 

@@ -14,11 +14,11 @@ use Rattle.squeeze_top.proofs.top.wcet_main.Goals as goal
 pub returns-in-Ok-clause-bounds : goal.returns-in-Ok-clause-bounds
 returns-in-Ok-clause-bounds g c =
     λ job n p t ask some small b give.
-        let same = c.one_job.ensures (map (λ w. w.now) c.args.words.now) job c.in-Ok.job ask c.in-Ok.ensures.asked in
-        c.plain_mode.ensures.bounds n p t some small
-            (subst (λ j. WroteBound j.mode n (g.K.Sink.written c.args.out.now) (g.K.Sink.written c.plain_mode.new.out))
-                same b)
-            (subst (λ j. Give j (g.S.Shelf.contents c.args.shelf.now) p t) same give)
+    let same = c.one_job.ensures (map (λ w. w.now) c.args.words.now) job c.in-Ok.job ask c.in-Ok.ensures.asked in
+    c.plain_mode.ensures.bounds n p t some small
+    (subst (λ j. WroteBound j.mode n (g.K.Sink.written c.args.out.now) (g.K.Sink.written c.plain_mode.new.out))
+    same b)
+    (subst (λ j. Give j (g.S.Shelf.contents c.args.shelf.now) p t) same give)
 
 pub returns-in-Ok-clause-one_answer : goal.returns-in-Ok-clause-one_answer
 returns-in-Ok-clause-one_answer g c = λ job. one_answer job (g.S.Shelf.contents c.args.shelf.now)
@@ -26,9 +26,9 @@ returns-in-Ok-clause-one_answer g c = λ job. one_answer job (g.S.Shelf.contents
 pub returns-in-Ok-clause-answered : goal.returns-in-Ok-clause-answered
 returns-in-Ok-clause-answered g c =
     λ job s text ask some answer unread unwritten.
-        let same = c.one_job.ensures (map (λ w. w.now) c.args.words.now) job c.in-Ok.job ask c.in-Ok.ensures.asked in
-        c.plain_mode.ensures.answered s text some
-            (subst (λ j. IsAnswer j (g.S.Shelf.contents c.args.shelf.now) s text) same answer) unread unwritten
+    let same = c.one_job.ensures (map (λ w. w.now) c.args.words.now) job c.in-Ok.job ask c.in-Ok.ensures.asked in
+    c.plain_mode.ensures.answered s text some
+    (subst (λ j. IsAnswer j (g.S.Shelf.contents c.args.shelf.now) s text) same answer) unread unwritten
 
 -- ---- the words are refused
 
@@ -65,9 +65,9 @@ returns-in-Err-NoMemory-clause-asked g c = asked_or_not (map (λ w. w.now) c.arg
 pub returns-in-Err-NoMemory-clause-bounds : goal.returns-in-Err-NoMemory-clause-bounds
 returns-in-Err-NoMemory-clause-bounds g c =
     λ job n p t ask some small b give.
-        let told = g.S.Shelf.contents c.args.shelf.now in
-        let old = g.K.Sink.written c.args.out.now in
-        bound_holds status.NoMemory job told old old n p t some small (wrote_nothing job told old old refl) b give
+    let told = g.S.Shelf.contents c.args.shelf.now in
+    let old = g.K.Sink.written c.args.out.now in
+    bound_holds status.NoMemory job told old old n p t some small (wrote_nothing job told old old refl) b give
 
 pub returns-in-Err-NoMemory-clause-one_answer : goal.returns-in-Err-NoMemory-clause-one_answer
 returns-in-Err-NoMemory-clause-one_answer g c = λ job. one_answer job (g.S.Shelf.contents c.args.shelf.now)
