@@ -60,10 +60,6 @@ pub given : (s : Status) (P : Type 0) → (s ≡ status.Whole) ⊎ (s ≡ status
 given s P (inl h) fails told = inl (h, told h)
 given s P (inr h) fails told = absurd (fails h)
 
-pub complete : (s : Status) → (s ≡ status.Whole) ⊎ (s ≡ status.WriteFault) → (s ≡ status.WriteFault → ⊥) → (s ≡ status.Whole) ⊎ (s ≡ status.NoMemory)
-complete s (inl h) fails = inl h
-complete s (inr h) fails = absurd (fails h)
-
 pub refused : (s t u : Status) (P : Type 0) → (s ≡ status.WriteFault → ⊥) → (s ≢ status.WriteFault → s ≢ status.NoMemory → (s ≡ t) × P) → t ≡ u → (s ≡ u) ⊎ (s ≡ status.NoMemory)
 refused status.Whole t u P fails told same = inl ((told (λ h. absurd (cc)) (λ h. absurd (cc))).0 ∙ same)
 refused status.Inexact t u P fails told same = inl ((told (λ h. absurd (cc)) (λ h. absurd (cc))).0 ∙ same)
