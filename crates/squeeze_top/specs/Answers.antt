@@ -77,7 +77,7 @@ pub record TellsRun (p : Program) (t : Costs) (input text : List ℕ) : Type 0 w
   pub spelled : input_text p values ≡ input
   pub line : text ≡ run_line (ended t (run p values))
 
--- the text is that of the printed program, and with each entry with which the program is typed it is read as this program
+-- the text is that of the printed program, and with each entry with which the program is typed it is read as this one
 pub record TellsProgram (p : Program) (text : List ℕ) : Type 0 where
   pub lines : text ≡ printed p
   pub again : (unit : Tree) (entry : List ℕ) → IsSpelled unit → Typed unit entry p → IsReadAs text entry p

@@ -36,8 +36,8 @@ pub fn one_job()
 {}
 
 /// The job that the words ask for: `MODE FILE`, and then `--costs NAME`, `--entry NAME` and `--input TEXT`, each of
-/// which may be missing, in this order. The mode is one that is built, the name of the file does not begin with `-`, and
-/// no value is one that `clap` takes for a flag: one that begins with `-` and goes on. `Refused` comes exactly where they
+/// which may be missing, in this order. The mode is one that is built, the file's name does not begin with `-`, and no
+/// value is one that `clap` takes for a flag: one that begins with `-` and goes on. `Refused` comes exactly where they
 /// ask for no job; `NoMemory` may come in place of any answer.
 #[tactic(auto, using(crate::proofs::Wording::is_asked, crate::proofs::Wording::none_asked))]
 pub fn words(alloc: Global, words: &[&str]) -> Result<Job, WordFault>
