@@ -1,6 +1,6 @@
-pub mod Refusing
 pub mod Agreeing
-mod Growing
+pub mod Asked
+pub mod Written
+pub mod WholeLines
+pub mod Bounds
 mod BlockLines
-mod Telling
-mod Wording

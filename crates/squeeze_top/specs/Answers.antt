@@ -1,5 +1,5 @@
--- What is written for a file whose program is accepted.
-use Rattle.std.specs.Prelude.{◌≡◌, ℕ, ◌+◌, if◌then◌else◌, IsTrue, List, [], ◌∷◌, ◌++◌, codes, decimal}
+-- What each mode answers, of texts that are accepted: how the tool ends, and the text that is written.
+use Rattle.std.specs.Prelude.{◌≡◌, ◌<◌, ◌≤◌, ◌^◌, ℕ, ◌+◌, IsTrue, List, [], ◌∷◌, ◌++◌, codes, decimal}
 use Rattle.c_tree.specs.declared.unit.Unit.{Unit as Tree}
 use Rattle.c_tree.specs.declared.program.Func.{Func}
 use Rattle.c_tree.specs.declared.program.Program.{Program}
@@ -18,8 +18,10 @@ use Rattle.c_run.specs.Ends.{ended}
 use Rattle.c_input.specs.InputTexts.{input_text}
 use Rattle.print_laws.specs.Again.{IsReadAs}
 use Rattle.print_laws.specs.Printed.{printed}
-use Rattle.squeeze_top.specs.declared.words.Mode.{Mode}
-use Rattle.squeeze_top.specs.declared.words.Mode.TheVariants.{Bound, Ipet, Blocks, Run, Print}
+use Rattle.word_line.specs.declared.job.Mode.{Mode}
+use Rattle.word_line.specs.declared.job.Mode.TheVariants.{Squeeze, Bound, Ipet, Blocks, Run, Print, Make, Workout}
+use Rattle.front_end.specs.declared.status.Status.{Status}
+use Rattle.front_end.specs.declared.status.Status.TheVariants.{Whole}
 
 abbrev pub bound_line : ℕ → List ℕ
 bound_line n = codes "bound " ++ decimal n ++ codes "\n"
@@ -43,9 +45,13 @@ block_lines (f ∷ fs) (row ∷ rows) = func_lines f.name 0 row ++ block_lines f
 -- the text is the line of the optimum of implicit path enumeration, which no run exceeds
 pub record TellsBound (p : Program) (t : Costs) (text : List ℕ) : Type 0 where
   pub bound : ℕ
+  pub fits : bound < 2 ^ 128
   pub optimum : IpetOptimum p t bound
   pub above : Above p t bound
   pub line : text ≡ bound_line bound
+
+abbrev pub ipet_line : ℕ → List ℕ
+ipet_line n = codes "ipet " ++ decimal n ++ codes "\n"
 
 abbrev pub ipet_lines : ℕ → ℕ → List ℕ
 ipet_lines copies n = codes "blocks " ++ decimal copies ++ codes "\nipet " ++ decimal n ++ codes "\n"
@@ -53,8 +59,10 @@ ipet_lines copies n = codes "blocks " ++ decimal copies ++ codes "\nipet " ++ de
 -- the text tells how many block copies the flat graph has, and the optimum, which no run exceeds
 pub record TellsPeak (p : Program) (t : Costs) (text : List ℕ) : Type 0 where
   pub bound : ℕ
+  pub fits : bound < 2 ^ 128
   pub optimum : IpetOptimum p t bound
   pub above : Above p t bound
+  pub few : block_copies (graph p) ≤ 1024
   pub lines : text ≡ ipet_lines (block_copies (graph p)) bound
 
 abbrev pub run_line : RunEnd → List ℕ
@@ -69,14 +77,25 @@ pub record TellsRun (p : Program) (t : Costs) (input text : List ℕ) : Type 0 w
   pub spelled : input_text p values ≡ input
   pub line : text ≡ run_line (ended t (run p values))
 
--- the text is that of the printed program, and with each entry with which the program is typed it is read as this program
+-- the text is that of the printed program, and with each entry with which the program is typed it is read as this one
 pub record TellsProgram (p : Program) (text : List ℕ) : Type 0 where
   pub lines : text ≡ printed p
   pub again : (unit : Tree) (entry : List ℕ) → IsSpelled unit → Typed unit entry p → IsReadAs text entry p
 
-abbrev pub IsAnswer : Mode → Program → Costs → List ℕ → List ℕ → Type 0
-IsAnswer Bound p t input text = TellsBound p t text
-IsAnswer Ipet p t input text = TellsPeak p t text
-IsAnswer Blocks p t input text = text ≡ block_lines p.funcs t.by_func
-IsAnswer Run p t input text = TellsRun p t input text
-IsAnswer Print p t input text = TellsProgram p text
+-- the table of modes: over the program p with the costs t and the text of the input, a mode ends with this status and
+-- writes this text. No job asks for a mode that is not built
+abbrev pub Tells : Mode → Program → Costs → List ℕ → Status → List ℕ → Type 0
+Tells Squeeze p t input s text = ⊥
+Tells Bound p t input s text = (s ≡ Whole) × TellsBound p t text
+Tells Ipet p t input s text = (s ≡ Whole) × TellsPeak p t text
+Tells Blocks p t input s text = (s ≡ Whole) × (text ≡ block_lines p.funcs t.by_func)
+Tells Run p t input s text = (s ≡ Whole) × TellsRun p t input text
+Tells Print p t input s text = (s ≡ Whole) × TellsProgram p text
+Tells Make p t input s text = ⊥
+Tells Workout p t input s text = ⊥
+
+-- the lines in which a mode prints a bound
+abbrev pub IsBoundLine : Mode → ℕ → List ℕ → Type 0
+IsBoundLine Bound n line = line ≡ bound_line n
+IsBoundLine Ipet n line = line ≡ ipet_line n
+IsBoundLine _ n line = ⊥

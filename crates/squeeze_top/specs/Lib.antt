@@ -1,9 +1,4 @@
-pub mod Words
-pub mod Accepted
 pub mod Answers
-pub mod Refusing
-pub mod Halts
-pub mod Tasks
+pub mod Jobs
 pub mod Lines
-pub mod Statuses
-pub mod Told
+pub mod Written

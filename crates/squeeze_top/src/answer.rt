@@ -1,59 +1,88 @@
-//! What is written of a program that is accepted.
+//! What each mode answers, of texts that are accepted.
 
-ghost use Rattle.std.specs.Prelude.{◌≡◌, ◌++◌, IfOk, IfErr, OnOk};
-ghost use Rattle.c_tree.specs.Claims.{AreCostsOf};
+ghost use Rattle.std.specs.Prelude.{◌≡◌, ◌<◌, ◌^◌, ◌++◌, IsTrue, IfOk, OnOk};
+ghost use Rattle.c_tree.specs.Runs as runs;
+ghost use Rattle.c_run.specs.Ends.{ended};
+ghost use Rattle.word_line.specs.Jobs.{is_built};
+ghost use Rattle.front_end.specs.declared.status.Status.TheVariants.{Whole};
+ghost use Rattle.front_end.specs.Refusing.{IsInput};
 ghost use Rattle.squeeze_top.specs.Answers as spec;
-ghost use Rattle.squeeze_top.specs.Tasks.{Suits, Writes};
+ghost use Rattle.squeeze_top.specs.Jobs.{input_of};
 
 use c_print::print;
 use c_run::{RunEnd, run};
 use c_tree::{Func, Input, NoMemory};
 use flow_graph::Plan;
+use front_end::{Front, Status};
 use ipet_peak::peak;
 use itoa::Buffer;
 use sqlite_items::Items;
 use std::alloc::{AllocError, Global};
+use word_line::{Job, Mode};
 
-/// What is to be done with a program.
+/// An answer: how the tool ends where it is written, and its text.
 #[derive(Drop)]
-pub(crate) enum Task {
-    Bound,
-    Ipet,
-    Blocks,
-    Run(Input),
-    Print,
+pub(crate) struct Answer {
+    pub(crate) status: Status,
+    pub(crate) text: Vec<u8>,
 }
 
-/// What a task writes of a plan.
-pub(crate) fn text_of_task(alloc: Global, task: &Task, plan: &Plan) -> Result<Vec<u8>, NoMemory>
-    requires fits { Suits task.now plan.now.program }
-    ensures answered { IfOk result (λ text. Writes task.now plan.now.program plan.now.costs text.items) }
+/// The answer of the job's mode.
+pub(crate) fn answer_of(alloc: Global, job: &Job, front: &Front) -> Result<Answer, NoMemory>
+    requires built { IsTrue (is_built job.now.mode) }
+    requires input { IsInput (input_of job.now.mode job.now.input) front.now.plan.program front.now.input }
+    ensures whole { IfOk result (λ a. a.status ≡ Whole) }
+    ensures told { IfOk result (λ a. let plan = front.now.plan in
+        spec.Tells job.now.mode plan.program plan.costs job.now.input a.status a.text.items) }
 {
-    let program = plan.program();
-    let costs = plan.costs();
-    match task {
-        Task::Bound => bound_answer(alloc, plan),
-        Task::Ipet => ipet_answer(alloc, plan),
-        Task::Blocks => {
-            let funcs = program.funcs.as_slice();
-            Ok(block_lines(alloc, funcs, costs.by_func.as_slice())?)
-        }
-        Task::Run(input) => {
-            let end = run(alloc, program, costs, input)?;
-            Ok(run_line(alloc, end)?)
-        }
-        Task::Print => Ok(print(alloc, program)?),
+    let plan = &front.plan;
+    match job.mode {
+        Mode::Bound => Ok(whole(bound_text(alloc, plan)?)),
+        Mode::Ipet => Ok(whole(ipet_text(alloc, plan)?)),
+        Mode::Blocks => Ok(whole(blocks_text(alloc, plan)?)),
+        Mode::Run => match &front.input {
+            Some(input) => Ok(whole(run_text(alloc, plan, input)?)),
+            None => unreachable!(),
+        },
+        Mode::Print => Ok(whole(print(alloc, plan.program())?)),
+        Mode::Squeeze | Mode::Make | Mode::Workout => unreachable!(),
     }
 }
 
-fn bound_answer(alloc: Global, plan: &Plan) -> Result<Vec<u8>, NoMemory>
+// The answer of a mode whose job is done.
+fn whole(text: Vec<u8>) -> Answer
+    ensures { result ≡ record { status = Whole; text = text } }
+{
+    Answer {
+        status: Status::Whole,
+        text,
+    }
+}
+
+fn run_text(alloc: Global, plan: &Plan, input: &Input) -> Result<Vec<u8>, NoMemory>
+    requires { IsTrue (runs.fits plan.now.program input.now) }
+    ensures { IfOk result (λ text. text.items
+        ≡ spec.run_line (ended plan.now.costs (runs.run plan.now.program input.now))) }
+{
+    let end = run(alloc, plan.program(), plan.costs(), input)?;
+    Ok(run_line(alloc, end)?)
+}
+
+fn blocks_text(alloc: Global, plan: &Plan) -> Result<Vec<u8>, NoMemory>
+    ensures { IfOk result (λ text. text.items ≡ spec.block_lines plan.now.program.funcs plan.now.costs.by_func) }
+{
+    let funcs = plan.program().funcs.as_slice();
+    Ok(block_lines(alloc, funcs, plan.costs().by_func.as_slice())?)
+}
+
+fn bound_text(alloc: Global, plan: &Plan) -> Result<Vec<u8>, NoMemory>
     ensures { IfOk result (λ text. spec.TellsBound plan.now.program plan.now.costs text.items) }
 {
     let peak = peak(alloc, plan)?;
     Ok(bound_line(alloc, peak.value)?)
 }
 
-fn ipet_answer(alloc: Global, plan: &Plan) -> Result<Vec<u8>, NoMemory>
+fn ipet_text(alloc: Global, plan: &Plan) -> Result<Vec<u8>, NoMemory>
     ensures { IfOk result (λ text. spec.TellsPeak plan.now.program plan.now.costs text.items) }
 {
     let peak = peak(alloc, plan)?;
@@ -61,7 +90,8 @@ fn ipet_answer(alloc: Global, plan: &Plan) -> Result<Vec<u8>, NoMemory>
 }
 
 fn ipet_lines(alloc: Global, copies: u32, bound: u128) -> Result<Vec<u8>, AllocError>
-    ensures { IfOk result (λ lines. lines.items ≡ spec.ipet_lines copies bound) }
+    ensures lines { IfOk result (λ lines. lines.items ≡ spec.ipet_lines copies bound) }
+    ensures fits { bound < 2 ^ 128 }
 {
     let mut buffer = Buffer::new();
     let mut lines = Vec::from_slice(alloc, b"blocks ")?;
@@ -73,7 +103,8 @@ fn ipet_lines(alloc: Global, copies: u32, bound: u128) -> Result<Vec<u8>, AllocE
 }
 
 fn bound_line(alloc: Global, bound: u128) -> Result<Vec<u8>, AllocError>
-    ensures { IfOk result (λ line. line.items ≡ spec.bound_line bound) }
+    ensures line { IfOk result (λ line. line.items ≡ spec.bound_line bound) }
+    ensures fits { bound < 2 ^ 128 }
 {
     let mut buffer = Buffer::new();
     let mut line = Vec::from_slice(alloc, b"bound ")?;

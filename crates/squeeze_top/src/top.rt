@@ -1,114 +1,173 @@
 //! The top call.
 
-ghost use Rattle.std.specs.Prelude.{◌≡◌, ◌≢◌, ◌≤◌, ◌<◌, ◌↔◌, ◌⊎◌, List, ℕ, Some, length, map, IsSome, IfOk, IfErr, OnOk, OnErr};
-ghost use Rattle.wc_outside.specs.Causes.{Rose, HasCause};
+ghost use Rattle.std.specs.Prelude.{◌≡◌, ◌≢◌, ◌≤◌, ◌<◌, ◌^◌, ◌⊎◌, List, ℕ, map, IfOk, IfErr, IsSome};
+ghost use Rattle.wc_outside.specs.Causes.{Rose};
 ghost use Rattle.wc_outside.specs.Growth.{Grew, GrewByPrefix};
-ghost use Rattle.squeeze_top.specs.Told.{Answers, Served, Refused, IsWritten, IsRefusedWith, IsWrittenInPart};
-ghost use Rattle.squeeze_top.specs.declared.refusal.Refusal.{Refusal};
-ghost use Rattle.squeeze_top.specs.declared.refusal.Halt.TheVariants as halt;
-ghost use Rattle.squeeze_top.specs.Halts.{IsWordsHalt, Counts};
-ghost use Rattle.squeeze_top.specs.Lines.{line_of};
-ghost use Rattle.squeeze_top.specs.Statuses.{status_of};
-ghost use Rattle.squeeze_top.specs.Words.{Request, request_of, AskFor};
+ghost use Rattle.c_tree.specs.declared.program.Program.{Program as Tree};
+ghost use Rattle.c_tree.specs.declared.program.Costs.{Costs as Table};
+ghost use Rattle.c_tree.specs.Claims.{Above};
+ghost use Rattle.word_line.specs.declared.job.Job.{Job};
+ghost use Rattle.word_line.specs.Jobs.{IsJob};
+ghost use Rattle.word_line.specs.Words.{AskFor};
+ghost use Rattle.front_end.specs.declared.refusal.Refusal.{Refusal};
+ghost use Rattle.front_end.specs.declared.status.Status.{Status};
+ghost use Rattle.front_end.specs.Files as files;
+ghost use Rattle.front_end.specs.Halts.{Counts};
+ghost use Rattle.front_end.specs.Statuses.{status_of};
+ghost use Rattle.squeeze_top.specs.Jobs.{source, Give, Served, AreRefused, IsAnswer, IsHalt};
+ghost use Rattle.squeeze_top.specs.Lines.{WroteBound};
+ghost use Rattle.squeeze_top.specs.Written.{Wrote, WroteNoJob, words_line};
 
-use crate::Status;
-use crate::line::line_of;
-use crate::reading::one_unit;
-use crate::refusal::{Halt, Refusal};
-use crate::words::{job_of, requests_are_asked};
-use crate::work::answer_to_job;
-use c_input::one_input;
+use crate::answer::{Answer, answer_of};
+use front_end::{Halt, Source, Status, front_end, put_lines, refuse};
 use std::alloc::Global;
 use std::sync::Wait;
 use std::thread::Threads;
-use wc_outside::{Failed, Gate, Shelf, Sink, put_all};
+use wc_outside::{Gate, Shelf, Sink, put_all};
+use word_line::{Job, Mode, Name, WordFault, one_job, words as job_of};
 
-// The answer to the words.
-fn answer_to_words<S: Shelf>(alloc: Global, words: &[&str], shelf: &mut S) -> Result<Vec<u8>, Halt>
-    ensures answered { IfOk result (λ text. Answers (map (λ w. w.now) words.now) (S.contents shelf.old) text.items) }
-    ensures halted { IfErr result (λ halt. IsWordsHalt halt (request_of (map (λ w. w.now) words.now)) (S.contents shelf.old)) }
+// Where the texts of a job come from, this being its file.
+fn source_of<'a>(job: &'a Job, file: &'a Name) -> Source<'a>
+    ensures { files.source_of result ≡ source job.now file.now }
+{
+    let table = match &job.costs {
+        Some(name) => Some(name.as_str()),
+        None => None,
+    };
+    let input = match job.mode {
+        Mode::Run => Some(job.input.as_str()),
+        _ => None,
+    };
+    Source {
+        file: file.as_str(),
+        entry: job.entry.as_str(),
+        input,
+        table,
+    }
+}
+
+// The answer to a job.
+fn answer_to<S: Shelf>(alloc: Global, job: &Job, shelf: &mut S) -> Result<Answer, Halt>
+    requires { IsJob job.now }
+    ensures answered { IfOk result (λ a. IsAnswer job.now (S.contents shelf.old) a.status a.text.items) }
+    ensures whole { IfOk result (λ a. a.status ≡ Status.Whole) }
+    ensures halted { IfErr result (λ halt. IsHalt halt job.now (S.contents shelf.old)) }
     ensures counts { Counts result (S.faults shelf.old) (S.faults shelf.new) }
     ensures same { S.contents shelf.new ≡ S.contents shelf.old }
 {
-    match job_of(words) {
-        Some(job) => answer_to_job(alloc, &job, shelf),
-        None => Err(Halt::Refused(Refusal::Words)),
-    }
-}
-
-// How long the first line of a text is, with its line feed.
-fn line_length(text: &[u8]) -> usize
-    requires { 0 < length text.now }
-    ensures some { 0 < result }
-    ensures within { result ≤ length text.now }
-{
-    match text.iter().position(|byte| *byte == b'\n') {
-        Some(at) => at + 1,
-        None => text.len(),
-    }
-}
-
-// Writes a text line by line.
-fn put_lines<K: Sink>(out: &mut K, text: &[u8]) -> Result<(), Failed>
-    ensures written { OnOk result (Grew (K.written out.old) (K.written out.new) text.now) }
-    ensures part { OnErr result (GrewByPrefix (K.written out.old) (K.written out.new) text.now) }
-    ensures cause { HasCause (K.faults out.old) (K.faults out.new) result }
-{
-    let mut rest = text;
-    while !rest.is_empty() {
-        let (line, more) = rest.split_at(line_length(rest));
-        put_all(out, line)?;
-        rest = more;
-    }
-    Ok(())
-}
-
-// Writes an answer.
-fn tell<K: Sink>(out: &mut K, text: &[u8]) -> Status
-    ensures told { result ≡ Status.Whole → Grew (K.written out.old) (K.written out.new) text.now }
-    ensures part { result ≡ Status.WriteFault → GrewByPrefix (K.written out.old) (K.written out.new) text.now × Rose (K.faults out.old) (K.faults out.new) }
-    ensures only { result ≡ Status.Whole ⊎ result ≡ Status.WriteFault }
-    ensures kept { result ≢ Status.WriteFault → K.faults out.new ≡ K.faults out.old }
-    ensures later { K.faults out.old ≤ K.faults out.new }
-{
-    match put_lines(out, text) {
-        Ok(()) => Status::Whole,
-        Err(_) => Status::WriteFault,
-    }
-}
-
-// Writes the line of a refusal.
-fn refuse<K: Sink>(alloc: Global, out: &mut K, refusal: &Refusal) -> Status
-    ensures told { result ≢ Status.WriteFault → result ≢ Status.NoMemory → (result ≡ status_of refusal.now) × Grew (K.written out.old) (K.written out.new) (line_of refusal.now) }
-    ensures part { result ≡ Status.WriteFault → GrewByPrefix (K.written out.old) (K.written out.new) (line_of refusal.now) × Rose (K.faults out.old) (K.faults out.new) }
-    ensures memory { result ≡ Status.NoMemory → K.written out.new ≡ K.written out.old }
-    ensures refused { result ≢ Status.Whole × result ≢ Status.ReadFault × result ≢ Status.Inexact }
-    ensures kept { result ≢ Status.WriteFault → K.faults out.new ≡ K.faults out.old }
-    ensures later { K.faults out.old ≤ K.faults out.new }
-{
-    let Ok(line) = line_of(alloc, refusal) else {
-        return Status::NoMemory;
+    let Some(file) = &job.file else {
+        unreachable!();
     };
-    match put_all(out, &line) {
-        Ok(()) => refusal.status(),
+    let front = front_end(alloc, shelf, &source_of(job, file))?;
+    Ok(answer_of(alloc, job, &front)?)
+}
+
+// Writes an answer, and tells how the tool ends: as the answer says, where it is written whole.
+fn tell<K: Sink>(out: &mut K, answer: &Answer) -> Status
+    requires { answer.now.status ≡ Status.Whole }
+    ensures told { result ≡ Status.Whole → Grew (K.written out.old) (K.written out.new) answer.now.text.items }
+    ensures part { result ≡ Status.WriteFault
+        → GrewByPrefix (K.written out.old) (K.written out.new) answer.now.text.items }
+    ensures write_fault { result ≡ Status.WriteFault → Rose (K.faults out.old) (K.faults out.new) }
+    ensures no_write_fault { result ≢ Status.WriteFault → K.faults out.new ≡ K.faults out.old }
+    ensures later { K.faults out.old ≤ K.faults out.new }
+    ensures only { result ≡ Status.Whole ⊎ result ≡ Status.WriteFault }
+{
+    match put_lines(out, &answer.text) {
+        Ok(()) => answer.status,
         Err(_) => Status::WriteFault,
     }
 }
 
-/// Does all that the program does: reads the words, reads the files that they name, and writes the answer, or the line of
-/// the first refusal. `rt` and `gate` are for modes with workers, of which there is none today.
+// Tells that the words ask for no job.
+fn refuse_words<K: Sink>(out: &mut K) -> Status
+    ensures wrote { WroteNoJob result (K.written out.old) (K.written out.new) }
+    ensures write_fault { result ≡ Status.WriteFault → Rose (K.faults out.old) (K.faults out.new) }
+    ensures no_write_fault { result ≢ Status.WriteFault → K.faults out.new ≡ K.faults out.old }
+    ensures later { K.faults out.old ≤ K.faults out.new }
+    ensures only { result ≡ Status.Words ⊎ result ≡ Status.WriteFault }
+{
+    match put_all(out, b"words refused\n") {
+        Ok(()) => Status::Words,
+        Err(_) => Status::WriteFault,
+    }
+}
+
+/// Does a job that needs no workers: reads the files that it names, and writes the answer, or the line of the first
+/// refusal. It takes no lock, and returns.
 ///
-/// The words are `MODE FILE`, and then, where they are given, `--costs NAME`, `--entry NAME` and `--input TEXT`, in this
-/// order; no name and no text begins with `-`. The modes are `bound`, which writes the optimum of implicit path
-/// enumeration (Li and Malik), which no run exceeds; `ipet`, which writes how many block copies there are and the optimum;
-/// `blocks`, which writes each block with its cost; `run`, which writes how the run on the input ends; and `print`, which
-/// writes the program. Without `--costs` each block costs 1; the entry is `main` where none is named, and the input is empty
-/// where none is given.
+/// The modes are `bound`, which writes the optimum of implicit path enumeration (Li and Malik), which no run exceeds;
+/// `ipet`, which writes how many block copies there are and the optimum; `blocks`, which writes each block with its
+/// cost; `run`, which writes how the run on the input ends; and `print`, which writes the program. Without a table each
+/// block costs 1.
 ///
-/// The order of work, and so of refusals, is: the words; the program's bytes and their size; its tokens; its unit; its
-/// names, kinds and bounds; the input of a run; the table's bytes and their size; the table's costs; the
-/// limits of the flat graph; and a fault of the sink. A fault of the shelf stands where its file is read. Want of memory may come before any of them. The
-/// clauses that speak of a file hold where the shelf tells its contents.
+/// The order of work, and so of refusals, is: the program's bytes and their size; its tokens; its unit; its names,
+/// kinds and bounds; the input of a run; the table's bytes and their size; the table's costs; the limits of the flat
+/// graph; and a fault of the sink. A fault of the shelf stands where its file is read. Want of memory may come before
+/// any of them. The clauses that speak of texts hold where the shelf tells its contents.
+pub fn plain_mode<S: Shelf, K: Sink>(alloc: Global, job: &Job, shelf: &mut S, out: &mut K) -> Status
+    // The job is one that words ask for: its mode is built.
+    requires { IsJob job.now }
+
+    // What each status says of what was written; before want of memory and at a fault of the shelf that is nothing. No
+    // mode of today ends inexact.
+    ensures wrote { Wrote result job.now (S.contents shelf.old) (K.written out.old) (K.written out.new) }
+    ensures memory { result ≡ Status.NoMemory → K.written out.new ≡ K.written out.old }
+    ensures unread { result ≡ Status.ReadFault → K.written out.new ≡ K.written out.old }
+    ensures exact { result ≢ Status.Inexact }
+
+    // A fault of the shelf or the sink is told only where its count rose, and none is passed over.
+    ensures read_fault { result ≡ Status.ReadFault → Rose (S.faults shelf.old) (S.faults shelf.new) }
+    ensures write_fault { result ≡ Status.WriteFault → Rose (K.faults out.old) (K.faults out.new) }
+    ensures no_read_fault { result ≢ Status.ReadFault → S.faults shelf.new ≡ S.faults shelf.old }
+    ensures no_write_fault { result ≢ Status.WriteFault → K.faults out.new ≡ K.faults out.old }
+
+    // Each line with a bound N that was written whole, at whatever status, is above every run of every program and
+    // costs that the texts give.
+    ensures bounds { (n : ℕ) (p : Tree) (t : Table) → IsSome (S.contents shelf.old) → n < 2 ^ 128
+        → WroteBound job.now.mode n (K.written out.old) (K.written out.new)
+        → Give job.now (S.contents shelf.old) p t → Above p t n }
+
+    // There is one answer.
+    ensures one_answer { (s u : Status) (a b : List ℕ) → IsSome (S.contents shelf.old)
+        → IsAnswer job.now (S.contents shelf.old) s a → IsAnswer job.now (S.contents shelf.old) u b
+        → (s ≡ u) × (a ≡ b) }
+
+    // It is given, where nothing fails outside and memory serves.
+    ensures answered { (s : Status) (text : List ℕ) → IsSome (S.contents shelf.old)
+        → IsAnswer job.now (S.contents shelf.old) s text
+        → ¬ (Rose (S.faults shelf.old) (S.faults shelf.new)) → ¬ (Rose (K.faults out.old) (K.faults out.new))
+        → ((result ≡ s) × Grew (K.written out.old) (K.written out.new) text) ⊎ result ≡ Status.NoMemory }
+
+    // Texts that are accepted are answered, where nothing fails outside and memory serves.
+    ensures complete { IsSome (S.contents shelf.old) → Served job.now (S.contents shelf.old)
+        → ¬ (Rose (S.faults shelf.old) (S.faults shelf.new)) → ¬ (Rose (K.faults out.old) (K.faults out.new))
+        → result ≡ Status.Whole ⊎ result ≡ Status.NoMemory }
+
+    // Where texts are refused, so is the job, with the status of the refusal.
+    ensures refused { (refusal : Refusal) → IsSome (S.contents shelf.old)
+        → AreRefused job.now (S.contents shelf.old) refusal
+        → ¬ (Rose (S.faults shelf.old) (S.faults shelf.new)) → ¬ (Rose (K.faults out.old) (K.faults out.new))
+        → result ≡ status_of refusal ⊎ result ≡ Status.NoMemory }
+
+    ensures shelf_later { S.faults shelf.old ≤ S.faults shelf.new }
+    ensures sink_later { K.faults out.old ≤ K.faults out.new }
+    ensures same { S.contents shelf.new ≡ S.contents shelf.old }
+{
+    match answer_to(alloc, job, shelf) {
+        Ok(answer) => tell(out, &answer),
+        Err(Halt::Refused(refusal)) => refuse(alloc, out, &refusal),
+        Err(Halt::ReadFault) => Status::ReadFault,
+        Err(Halt::NoMemory) => Status::NoMemory,
+    }
+}
+
+/// Does all that the program does: reads the words, and does the job that they ask for, as `plain_mode` does; or writes
+/// that they are refused, where they ask for none. Want of memory may come before that. `rt` and `gate` are for modes
+/// with workers, of which there is none today; so this call owes no return by its contract.
+///
+/// The words are `MODE FILE`, and then, where they are given, `--costs NAME`, `--entry NAME` and `--input TEXT`, in
+/// this order. The entry is `main` where none is named, and the input is empty where none is given.
 pub fn wcet_main<R: Threads + Wait + Sync, S: Shelf, K: Sink, G: Gate + Sync>(
     _rt: &R,
     alloc: Global,
@@ -117,49 +176,69 @@ pub fn wcet_main<R: Threads + Wait + Sync, S: Shelf, K: Sink, G: Gate + Sync>(
     out: &mut K,
     _gate: &G,
 ) -> Status
-    // What each status says of the words, of the files and of what was written.
-    ensures whole { result ≡ Status.Whole → IsWritten (map (λ w. w.now) words.now) (S.contents shelf.old) (K.written out.old) (K.written out.new) }
-    ensures words { result ≡ Status.Words → IsRefusedWith Status.Words (map (λ w. w.now) words.now) (S.contents shelf.old) (K.written out.old) (K.written out.new) }
-    ensures program { result ≡ Status.Program → IsRefusedWith Status.Program (map (λ w. w.now) words.now) (S.contents shelf.old) (K.written out.old) (K.written out.new) }
-    ensures costs { result ≡ Status.Costs → IsRefusedWith Status.Costs (map (λ w. w.now) words.now) (S.contents shelf.old) (K.written out.old) (K.written out.new) }
-    ensures read { result ≡ Status.ReadFault → IsSome (request_of (map (λ w. w.now) words.now)) × Rose (S.faults shelf.old) (S.faults shelf.new) × (K.written out.new ≡ K.written out.old) }
-    ensures write { result ≡ Status.WriteFault → IsWrittenInPart (map (λ w. w.now) words.now) (S.contents shelf.old) (K.written out.old) (K.written out.new) × Rose (K.faults out.old) (K.faults out.new) }
-    ensures memory { result ≡ Status.NoMemory → K.written out.new ≡ K.written out.old }
-    ensures other { result ≢ Status.Inexact }
+    // Words ask for one job, or for none.
+    ensures asked { ((job : Job) × AskFor (map (λ w. w.now) words.now) job)
+        ⊎ ((job : Job) → ¬ (AskFor (map (λ w. w.now) words.now) job)) }
+    ensures one_job { (a b : Job) → AskFor (map (λ w. w.now) words.now) a
+        → AskFor (map (λ w. w.now) words.now) b → a ≡ b }
 
-    // Where the contents are told, nothing fails outside and memory serves, the answer is written if there is one.
-    ensures answered { (text : List ℕ) → IsSome (S.contents shelf.old) → Answers (map (λ w. w.now) words.now) (S.contents shelf.old) text
+    // What each status says of what was written; before want of memory and at a fault of the shelf that is nothing. No
+    // mode of today ends inexact.
+    ensures wrote { (job : Job) → AskFor (map (λ w. w.now) words.now) job
+        → Wrote result job (S.contents shelf.old) (K.written out.old) (K.written out.new) }
+    ensures no_job { ((job : Job) → ¬ (AskFor (map (λ w. w.now) words.now) job))
+        → WroteNoJob result (K.written out.old) (K.written out.new) }
+    ensures memory { result ≡ Status.NoMemory → K.written out.new ≡ K.written out.old }
+    ensures unread { result ≡ Status.ReadFault → K.written out.new ≡ K.written out.old }
+    ensures exact { result ≢ Status.Inexact }
+
+    // A fault of the shelf or the sink is told only where its count rose, and none is passed over.
+    ensures read_fault { result ≡ Status.ReadFault → Rose (S.faults shelf.old) (S.faults shelf.new) }
+    ensures write_fault { result ≡ Status.WriteFault → Rose (K.faults out.old) (K.faults out.new) }
+    ensures no_read_fault { result ≢ Status.ReadFault → S.faults shelf.new ≡ S.faults shelf.old }
+    ensures no_write_fault { result ≢ Status.WriteFault → K.faults out.new ≡ K.faults out.old }
+
+    // Each line with a bound N that was written whole, at whatever status, is above every run of every program and
+    // costs that the texts give.
+    ensures bounds { (job : Job) (n : ℕ) (p : Tree) (t : Table) → AskFor (map (λ w. w.now) words.now) job
+        → IsSome (S.contents shelf.old) → n < 2 ^ 128
+        → WroteBound job.mode n (K.written out.old) (K.written out.new)
+        → Give job (S.contents shelf.old) p t → Above p t n }
+
+    // There is one answer.
+    ensures one_answer { (job : Job) (s u : Status) (a b : List ℕ) → IsSome (S.contents shelf.old)
+        → IsAnswer job (S.contents shelf.old) s a → IsAnswer job (S.contents shelf.old) u b
+        → (s ≡ u) × (a ≡ b) }
+
+    // It is given, where nothing fails outside and memory serves.
+    ensures answered { (job : Job) (s : Status) (text : List ℕ) → AskFor (map (λ w. w.now) words.now) job
+        → IsSome (S.contents shelf.old) → IsAnswer job (S.contents shelf.old) s text
         → ¬ (Rose (S.faults shelf.old) (S.faults shelf.new)) → ¬ (Rose (K.faults out.old) (K.faults out.new))
-        → ((result ≡ Status.Whole) × Grew (K.written out.old) (K.written out.new) text) ⊎ result ≡ Status.NoMemory }
+        → ((result ≡ s) × Grew (K.written out.old) (K.written out.new) text) ⊎ result ≡ Status.NoMemory }
 
     // Texts that are accepted are answered, where nothing fails outside and memory serves.
-    ensures complete { IsSome (S.contents shelf.old) → Served (map (λ w. w.now) words.now) (S.contents shelf.old)
+    ensures complete { (job : Job) → AskFor (map (λ w. w.now) words.now) job
+        → IsSome (S.contents shelf.old) → Served job (S.contents shelf.old)
         → ¬ (Rose (S.faults shelf.old) (S.faults shelf.new)) → ¬ (Rose (K.faults out.old) (K.faults out.new))
         → result ≡ Status.Whole ⊎ result ≡ Status.NoMemory }
 
-    // Where a refusal holds of the words and the files, the status is that of the refusal.
-    ensures refused { (refusal : Refusal) → IsSome (S.contents shelf.old) → Refused (map (λ w. w.now) words.now) (S.contents shelf.old) refusal
+    // Where texts are refused, so is the job, with the status of the refusal; where there is no job, so are the words.
+    ensures refused { (job : Job) (refusal : Refusal) → AskFor (map (λ w. w.now) words.now) job
+        → IsSome (S.contents shelf.old) → AreRefused job (S.contents shelf.old) refusal
         → ¬ (Rose (S.faults shelf.old) (S.faults shelf.new)) → ¬ (Rose (K.faults out.old) (K.faults out.new))
         → result ≡ status_of refusal ⊎ result ≡ Status.NoMemory }
-
-    // Words are read as a request exactly where they ask for it.
-    ensures asked { (asking : List (List ℕ)) (r : Request) → (request_of asking ≡ Some r) ↔ AskFor asking r }
-
-    // No fault is passed over.
-    ensures no_read_fault { result ≢ Status.ReadFault → S.faults shelf.new ≡ S.faults shelf.old }
-    ensures no_write_fault { result ≢ Status.WriteFault → K.faults out.new ≡ K.faults out.old }
+    ensures refused_words { ((job : Job) → ¬ (AskFor (map (λ w. w.now) words.now) job))
+        → ¬ (Rose (K.faults out.old) (K.faults out.new))
+        → result ≡ Status.Words ⊎ result ≡ Status.NoMemory }
 
     ensures shelf_later { S.faults shelf.old ≤ S.faults shelf.new }
     ensures sink_later { K.faults out.old ≤ K.faults out.new }
     ensures same { S.contents shelf.new ≡ S.contents shelf.old }
 {
-    one_unit();
-    one_input();
-    requests_are_asked();
-    match answer_to_words(alloc, words, shelf) {
-        Ok(text) => tell(out, &text),
-        Err(Halt::Refused(refusal)) => refuse(alloc, out, &refusal),
-        Err(Halt::ReadFault) => Status::ReadFault,
-        Err(Halt::NoMemory) => Status::NoMemory,
+    one_job();
+    match job_of(alloc, words) {
+        Ok(job) => plain_mode(alloc, &job, shelf, out),
+        Err(WordFault::Refused) => refuse_words(out),
+        Err(WordFault::NoMemory) => Status::NoMemory,
     }
 }

@@ -1,3 +1,4 @@
+-- What is written so far of a function's lines.
 use Rattle.std.proofs.Common.{◌≡◌, ◌++◌, drop}
 use Rattle.squeeze_top.specs.Answers.{func_lines}
 use Rattle.squeeze_top.proofs.answer.add_func_lines.Given as goal

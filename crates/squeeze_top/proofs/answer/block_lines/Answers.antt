@@ -1,3 +1,4 @@
+-- At the end all lines are written.
 use Rattle.squeeze_top.proofs.BlockLines.{no_lines, all_written}
 use Rattle.squeeze_top.proofs.answer.block_lines.Goals as goal
 

@@ -1,3 +1,4 @@
+-- What is written so far of the lines of all functions.
 use Rattle.std.proofs.Common.{◌≡◌, ◌++◌}
 use Rattle.squeeze_top.specs.Answers.{block_lines}
 use Rattle.squeeze_top.proofs.answer.block_lines.Given as goal

@@ -1,0 +1,5 @@
+pub mod Stopping
+pub mod Growing
+pub mod OneProgram
+pub mod InFiles
+pub mod Agreeing
