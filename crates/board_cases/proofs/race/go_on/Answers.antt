@@ -1,0 +1,10 @@
+-- The claim that is got is open.
+use Rattle.std.proofs.Common.{subst}
+use Rattle.board_cases.specs.Claimed.{Claimed}
+use Rattle.board_cases.proofs.Claims.{claimed_is_open}
+use Rattle.board_cases.proofs.race.go_on.Goals as goal
+
+pub hold_two-requires : goal.hold_two-requires
+hold_two-requires c =
+    claimed_is_open c.args.board.now c.claimed.new.board 1 c.in-Some.ticket
+    (subst (λ o. Claimed c.args.board.now c.claimed.new.board 1 o) c.in-Some.is c.in_ok-claimed.ensures)
