@@ -10,3 +10,4 @@ mod starts;
 
 pub use cond_laws::PathCond;
 pub use path::condition;
+pub use path_weight::weight;
