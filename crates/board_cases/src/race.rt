@@ -11,12 +11,12 @@ use crate::words::{of_end, of_item, of_shown};
 use crate::wrong::Wrong;
 use board_core::{Board, Claim, Shown, Ticket};
 use c_tree::Input;
-use race_item::{by_fork, by_path};
+use race_item::{Item, by_fork, by_path};
 use std::alloc::Global;
 
 /// What a board answers to these calls: `read`; a claim by 0 and one by 1; the publication of the split of the first claim by
-/// the first input; a claim by 1 and one by 0; the publication of what the path and the second input settle of the former;
-/// the latter given back; a claim by 0; `end`.
+/// the first input; a claim by 1, whether the first input splits its item, and a claim by 0; the publication of what the path
+/// and the second input settle of the former; the latter given back; a claim by 0; `end`.
 pub(crate) fn raced<'p>(
     alloc: Global,
     case: &Case,
@@ -52,7 +52,10 @@ fn go_on<'p>(
     let path = edges(alloc, case.edges)?;
     match claimed(alloc, board, 1, told)? {
         None => Ok(()),
-        Some(ticket) => hold_two(alloc, case, board, ticket, path.as_slice(), told),
+        Some(ticket) => {
+            tell_fork(alloc, case, ticket.item(), told)?;
+            hold_two(alloc, case, board, ticket, path.as_slice(), told)
+        }
     }
 }
 
@@ -130,6 +133,20 @@ fn split<'p>(
             Ok(None)
         }
         Err(_) => Err(Wrong::NoMemory),
+    }
+}
+
+// Whether the first input splits the item at a fork.
+fn tell_fork<'p>(
+    alloc: Global,
+    case: &Case,
+    item: &Item<'p>,
+    told: &mut String,
+) -> Result<(), Wrong> {
+    let input = input(alloc, case.first)?;
+    match by_fork(alloc, item, &input)? {
+        None => tell(told, "no fork"),
+        Some(_) => tell(told, "a fork"),
     }
 }
 
