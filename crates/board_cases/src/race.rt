@@ -14,9 +14,10 @@ use c_tree::Input;
 use race_item::{Item, by_fork, by_path};
 use std::alloc::Global;
 
-/// What a board answers to these calls: `read`; a claim by 0 and one by 1; the publication of the split of the first claim by
-/// the first input; a claim by 1, whether the first input splits its item, and a claim by 0; the publication of what the path
-/// and the second input settle of the former; the latter given back; a claim by 0; `end`.
+/// What a board answers to these calls: `read`; a claim by 0 and one by 1; the publication of the split of the
+/// first claim by the first input; a claim by 1, whether the first input splits its item, and a claim by 0; the
+/// publication of what the path and the second input settle of the former; the latter given back; a claim by 0;
+/// `end`.
 pub(crate) fn raced<'p>(
     alloc: Global,
     case: &Case,
