@@ -9,8 +9,8 @@ use Rattle.cnf_form.specs.Truth.{literal_true}
 use Rattle.bv_term.specs.Words.{flag}
 use Rattle.bit_circuits.specs.Words.{word_value}
 use Rattle.bit_circuits.specs.Formula.{variables_from, first_of, input_bits, number_read, decoded_from}
-use Rattle.bit_circuits.proofs.Values.{word_value-lt}
-use Rattle.bit_circuits.proofs.Terms.{length-variables}
+use Rattle.bit_circuits.proofs.WordArithmetic.Values.{word_value-lt}
+use Rattle.bit_circuits.proofs.WordArithmetic.Terms.{length-variables}
 
 -- ---- the word of an input
 

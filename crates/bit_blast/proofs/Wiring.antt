@@ -3,9 +3,9 @@ use Rattle.std.proofs.Common.{◌≡◌, ℕ, ◌+◌, ◌*◌, ◌++◌, ℤ, L
 use Rattle.bv_term.specs.declared.op.Op.{Op}
 use Rattle.bv_term.specs.Stores.{Terms}
 use Rattle.bit_circuits.specs.declared.netlist.Netlist.{Netlist}
-use Rattle.bit_circuits.specs.Tidy.{tidied}
+use Rattle.bit_circuits.specs.Tidy.{tidy_clauses}
 use Rattle.bit_circuits.specs.Gates.{gates_clauses}
-use Rattle.bit_circuits.specs.Words.{truth}
+use Rattle.bit_circuits.specs.Words.{true_literal}
 use Rattle.bit_circuits.specs.Formula.{first_of, bits_at, terms_bits, terms_wired, variables_of, clauses_of, VariablesOf, ClausesOf}
 use Rattle.bit_circuits.specs.Runs.{next_of, Adds}
 
@@ -29,10 +29,10 @@ unfolding variables_of
 variables-are terms netlist words k w e = omega (arith, e, w.first, ap length w.gates)
 
 pub clauses-are : (terms : Terms) (conditions : List ℕ) (netlist : Netlist) (words clauses : List (List ℤ)) → IsWired terms netlist words
-    → clauses ≡ (truth ∷ []) ∷ (gates_clauses netlist.first netlist.gates.items ++ tidied (map (bits_at words) conditions)) → clauses ≡ ClausesOf terms conditions
+    → clauses ≡ (true_literal ∷ []) ∷ (gates_clauses netlist.first netlist.gates.items ++ tidy_clauses (map (bits_at words) conditions)) → clauses ≡ ClausesOf terms conditions
 unfolding clauses_of
 clauses-are terms conditions netlist words clauses w e =
     e
-    ∙ ap (λ k. (truth ∷ []) ∷ (gates_clauses k netlist.gates.items ++ tidied (map (bits_at words) conditions))) w.first
-    ∙ ap (λ gs. (truth ∷ []) ∷ (gates_clauses (first_of (length terms.inputs)) gs ++ tidied (map (bits_at words) conditions))) w.gates
-    ∙ ap (λ ws. (truth ∷ []) ∷ (gates_clauses (first_of (length terms.inputs)) (terms_wired (length terms.inputs) terms.ops).gates ++ tidied (map (bits_at ws) conditions))) w.words
+    ∙ ap (λ k. (true_literal ∷ []) ∷ (gates_clauses k netlist.gates.items ++ tidy_clauses (map (bits_at words) conditions))) w.first
+    ∙ ap (λ gs. (true_literal ∷ []) ∷ (gates_clauses (first_of (length terms.inputs)) gs ++ tidy_clauses (map (bits_at words) conditions))) w.gates
+    ∙ ap (λ ws. (true_literal ∷ []) ∷ (gates_clauses (first_of (length terms.inputs)) (terms_wired (length terms.inputs) terms.ops).gates ++ tidy_clauses (map (bits_at ws) conditions))) w.words

@@ -1,8 +1,8 @@
 //! Conditions over terms become a formula.
 
 ghost use Rattle.std.specs.Prelude.{◌≡◌, ◌<◌, ◌≤◌, ◌+◌, ◌++◌, [], ◌∷◌, All, IfOk, length, map};
-ghost use Rattle.bit_circuits.specs.Words.{truth as truth_of};
-ghost use Rattle.bit_circuits.specs.Tidy.{tidied};
+ghost use Rattle.bit_circuits.specs.Words.{true_literal as truth_of};
+ghost use Rattle.bit_circuits.specs.Tidy.{tidy_clauses};
 ghost use Rattle.bit_circuits.specs.Gates.{gates_clauses};
 ghost use Rattle.bit_circuits.specs.Formula.{VariablesOf, ClausesOf, first_of, bits_at as bits_at_of};
 ghost use Rattle.bit_circuits.specs.Runs.{next_of};
@@ -19,10 +19,10 @@ use cnf_form::{Clause, Cnf};
 use sqlite_items::Items;
 use std::alloc::{AllocError, Global};
 
-/// The formula of conditions over a store of terms: variable 1 is true, each declared input has 32 variables, each gate of
-/// the terms' circuits is what it says, and some bit of each condition is true. At an input that fits the store, all
-/// conditions are nonzero exactly where some satisfying assignment decodes to it. `NoMemory` is want of memory; it is also
-/// the answer where there would be more than 2,147,483,647 variables or clauses.
+/// The formula of conditions over a store of terms: variable 1 is true, each declared input has 32 variables, each
+/// gate of the terms' circuits is what it says, and some bit of each condition is true. At an input that fits the
+/// store, all conditions are nonzero exactly where some satisfying assignment decodes to it. `NoMemory` is want of
+/// memory; it is also the answer where there would be more than 2,147,483,647 variables or clauses.
 pub fn blast(alloc: Global, terms: &Terms, conditions: &[u32]) -> Result<Blasted, NoMemory>
     requires { All (λ t. t < length terms.now.ops) conditions.now }
     ensures variables { IfOk result (λ b. b.cnf.variables ≡ VariablesOf terms.now) }
@@ -79,7 +79,9 @@ fn clauses_of(
     words: &[Vec<Literal>],
     conditions: &[u32],
 ) -> Result<Vec<Clause>, AllocError>
-    ensures { IfOk result (λ clauses. clauses.items ≡ (truth_of ∷ []) ∷ (gates_clauses netlist.now.first netlist.now.gates.items ++ tidied (map (bits_at_of (map (λ w. w.items) words.now)) conditions.now))) }
+    ensures { IfOk result (λ clauses. clauses.items ≡ (truth_of ∷ [])
+        ∷ (gates_clauses netlist.now.first netlist.now.gates.items
+        ++ tidy_clauses (map (bits_at_of (map (λ w. w.items) words.now)) conditions.now))) }
 {
     let mut clauses = Vec::new(alloc);
     let first = [truth()];

@@ -1,7 +1,7 @@
 //! The clauses of conditions.
 
 ghost use Rattle.std.specs.Prelude.{◌≡◌, ◌++◌, map, OnOk};
-ghost use Rattle.bit_circuits.specs.Tidy.{tidied};
+ghost use Rattle.bit_circuits.specs.Tidy.{tidy_clauses};
 ghost use Rattle.bit_circuits.specs.Words.{falses as falses_of};
 ghost use Rattle.bit_circuits.specs.Formula.{bits_at as bits_at_of};
 
@@ -20,7 +20,8 @@ pub(crate) fn push_conditions(
     conditions: &[u32],
 ) -> Result<(), AllocError>
     requires { none.now ≡ falses_of 32 }
-    ensures { OnOk result (clauses.new.items ≡ clauses.old.items ++ tidied (map (bits_at_of (map (λ w. w.items) words.now)) conditions.now)) }
+    ensures { OnOk result (clauses.new.items ≡ clauses.old.items
+        ++ tidy_clauses (map (bits_at_of (map (λ w. w.items) words.now)) conditions.now)) }
 {
     for term in conditions {
         push_tidied(alloc, clauses, bits_at(words, none, *term))?;

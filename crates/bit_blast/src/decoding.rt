@@ -4,7 +4,7 @@ ghost use Rattle.std.specs.Prelude.{◌≡◌, ◌<◌, false, length, slice_ind
 ghost use Rattle.cnf_form.specs.Truth.{literal_true};
 ghost use Rattle.bv_term.specs.Words.{flag as flag_of};
 ghost use Rattle.bit_circuits.specs.Words.{word_value};
-ghost use Rattle.bit_circuits.specs.Formula.{input_bits, number_read, decoded};
+ghost use Rattle.bit_circuits.specs.Formula.{input_bits, number_read, decoded_words};
 
 use crate::blasted::Blasted;
 use c_tree::Input;
@@ -15,7 +15,7 @@ use cnf_form::Assignment;
 pub fn decode(blasted: &Blasted, assignment: &Assignment, into: &mut Input)
     requires inputs { length into.old.values ≡ length blasted.now.inputs }
     requires variables { length assignment.now.values ≡ blasted.now.cnf.variables }
-    ensures { into.new.values ≡ decoded blasted.now.inputs assignment.now.values }
+    ensures { into.new.values ≡ decoded_words blasted.now.inputs assignment.now.values }
 {
     let inputs = blasted.inputs.as_slice();
     for n in 0..inputs.len() {

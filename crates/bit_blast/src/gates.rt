@@ -2,7 +2,7 @@
 
 ghost use Rattle.std.specs.Prelude.{◌≡◌, ◌<◌, ◌≤◌, ◌+◌, ◌^◌, ◌++◌, [], ◌∷◌, length, OnOk};
 ghost use Rattle.bit_circuits.specs.declared.gate.Gate.TheVariants as gates;
-ghost use Rattle.bit_circuits.specs.Tidy.{tidied};
+ghost use Rattle.bit_circuits.specs.Tidy.{tidy_clauses};
 ghost use Rattle.bit_circuits.specs.Gates.{equality, gates_clauses};
 
 use crate::tidy::push_tidied;
@@ -36,7 +36,7 @@ fn push_gate(
     variable: Literal,
     gate: &Gate,
 ) -> Result<(), AllocError>
-    ensures { OnOk result (clauses.new.items ≡ clauses.old.items ++ tidied (equality variable gate.now)) }
+    ensures { OnOk result (clauses.new.items ≡ clauses.old.items ++ tidy_clauses (equality variable gate.now)) }
 {
     match *gate {
         Gate::And(l, m) => push_and(alloc, clauses, variable, l, m),
@@ -54,7 +54,7 @@ fn push_and(
     l: Literal,
     m: Literal,
 ) -> Result<(), AllocError>
-    ensures { OnOk result (clauses.new.items ≡ clauses.old.items ++ tidied (equality x (gates.And l m))) }
+    ensures { OnOk result (clauses.new.items ≡ clauses.old.items ++ tidy_clauses (equality x (gates.And l m))) }
 {
     push_two(alloc, clauses, x.negated(), l)?;
     push_two(alloc, clauses, x.negated(), m)?;
@@ -68,7 +68,7 @@ fn push_or(
     l: Literal,
     m: Literal,
 ) -> Result<(), AllocError>
-    ensures { OnOk result (clauses.new.items ≡ clauses.old.items ++ tidied (equality x (gates.Or l m))) }
+    ensures { OnOk result (clauses.new.items ≡ clauses.old.items ++ tidy_clauses (equality x (gates.Or l m))) }
 {
     push_two(alloc, clauses, x, l.negated())?;
     push_two(alloc, clauses, x, m.negated())?;
@@ -82,7 +82,7 @@ fn push_xor(
     l: Literal,
     m: Literal,
 ) -> Result<(), AllocError>
-    ensures { OnOk result (clauses.new.items ≡ clauses.old.items ++ tidied (equality x (gates.Xor l m))) }
+    ensures { OnOk result (clauses.new.items ≡ clauses.old.items ++ tidy_clauses (equality x (gates.Xor l m))) }
 {
     push_three(alloc, clauses, x.negated(), l, m)?;
     push_three(alloc, clauses, x.negated(), l.negated(), m.negated())?;
@@ -98,7 +98,7 @@ fn push_majority(
     m: Literal,
     k: Literal,
 ) -> Result<(), AllocError>
-    ensures { OnOk result (clauses.new.items ≡ clauses.old.items ++ tidied (equality x (gates.Majority l m k))) }
+    ensures { OnOk result (clauses.new.items ≡ clauses.old.items ++ tidy_clauses (equality x (gates.Majority l m k))) }
 {
     push_three(alloc, clauses, x.negated(), l, m)?;
     push_three(alloc, clauses, x.negated(), l, k)?;
@@ -116,7 +116,7 @@ fn push_choice(
     l: Literal,
     m: Literal,
 ) -> Result<(), AllocError>
-    ensures { OnOk result (clauses.new.items ≡ clauses.old.items ++ tidied (equality x (gates.Choice c l m))) }
+    ensures { OnOk result (clauses.new.items ≡ clauses.old.items ++ tidy_clauses (equality x (gates.Choice c l m))) }
 {
     push_three(alloc, clauses, x.negated(), c.negated(), l)?;
     push_three(alloc, clauses, x.negated(), c, m)?;
@@ -130,7 +130,7 @@ fn push_two(
     l: Literal,
     m: Literal,
 ) -> Result<(), AllocError>
-    ensures { OnOk result (clauses.new.items ≡ clauses.old.items ++ tidied ((l ∷ m ∷ []) ∷ [])) }
+    ensures { OnOk result (clauses.new.items ≡ clauses.old.items ++ tidy_clauses ((l ∷ m ∷ []) ∷ [])) }
 {
     let literals = [l, m];
     push_tidied(alloc, clauses, literals.as_slice())
@@ -143,7 +143,7 @@ fn push_three(
     m: Literal,
     k: Literal,
 ) -> Result<(), AllocError>
-    ensures { OnOk result (clauses.new.items ≡ clauses.old.items ++ tidied ((l ∷ m ∷ k ∷ []) ∷ [])) }
+    ensures { OnOk result (clauses.new.items ≡ clauses.old.items ++ tidy_clauses ((l ∷ m ∷ k ∷ []) ∷ [])) }
 {
     let literals = [l, m, k];
     push_tidied(alloc, clauses, literals.as_slice())

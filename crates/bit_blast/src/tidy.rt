@@ -4,7 +4,12 @@ ghost use Rattle.std.specs.Prelude.{◌≡◌, ◌++◌, ◌∷◌, [], false, n
 ghost use Rattle.std.specs.List.{filter};
 ghost use Rattle.std.specs.Ordering.{int_eq};
 ghost use Rattle.cnf_form.specs.Literals.{IsLiteral};
-ghost use Rattle.bit_circuits.specs.Tidy.{has as has_of, has_both_signs as has_both_signs_of, once as once_of, tidied as tidied_of};
+ghost use Rattle.bit_circuits.specs.Tidy.{
+  has as has_of,
+  has_both_signs as has_both_signs_of,
+  once as once_of,
+  tidy_clauses as tidied_of,
+};
 
 use bit_circuits::Literal;
 use cnf_form::Clause;

@@ -1,5 +1,5 @@
--- Circuits: what adds gates, one after the other, and has an outcome. A circuit is written as what it does where `n` is the
--- number of the next variable.
+-- Circuits: what adds gates, one after the other, and has an outcome. A circuit is written as what it does where `n`
+-- is the number of the next variable.
 use Rattle.std.specs.Prelude.{ℕ, suc, ℤ, pos, List, [], ◌∷◌, ◌++◌}
 use Rattle.bit_circuits.specs.declared.gate.Gate.{Gate}
 
@@ -12,9 +12,9 @@ abbrev pub Circuit : Type 0 → Type 0
 Circuit A = ℕ → Wired A
 
 -- the number of the next variable, after these gates
-abbrev pub past : ℕ → List Gate → ℕ
-past n [] = n
-past n (g ∷ gs) = past (suc n) gs
+abbrev pub number_after : ℕ → List Gate → ℕ
+number_after n [] = n
+number_after n (g ∷ gs) = number_after (suc n) gs
 
 -- no gate
 unfoldable pub done : {A : Type 0} → A → Circuit A
@@ -29,5 +29,5 @@ infixl 10 ◌>>=◌
 unfoldable pub ◌>>=◌ : {A B : Type 0} → Circuit A → (A → Circuit B) → Circuit B
 (c >>= f) n =
     let first = c n in
-    let then = f first.out (past n first.gates) in
+    let then = f first.out (number_after n first.gates) in
     record { out = then.out; gates = first.gates ++ then.gates }

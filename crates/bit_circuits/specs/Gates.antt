@@ -1,11 +1,29 @@
 -- Gates: one new variable each, with the clauses of an equality.
-use Rattle.std.specs.Prelude.{◌≡◌, ℕ, suc, ℤ, pos, neg_ℤ, Bool, true, false, not, ◌&&◌, ◌||◌, if◌then◌else◌, List, [], ◌∷◌, ◌++◌}
+use Rattle.std.specs.Prelude.{
+  ◌≡◌,
+  ℕ,
+  suc,
+  ℤ,
+  pos,
+  neg_ℤ,
+  Bool,
+  true,
+  false,
+  not,
+  ◌&&◌,
+  ◌||◌,
+  if◌then◌else◌,
+  List,
+  [],
+  ◌∷◌,
+  ◌++◌,
+}
 use Rattle.bit_circuits.specs.declared.gate.Gate.{Gate}
 use Rattle.bit_circuits.specs.declared.gate.Gate.TheVariants as gate
-use Rattle.bit_circuits.specs.Tidy.{tidied}
+use Rattle.bit_circuits.specs.Tidy.{tidy_clauses}
 
-abbrev pub either : Bool → Bool → Bool
-either a b = if a then not b else b
+abbrev pub exclusive_or : Bool → Bool → Bool
+exclusive_or a b = if a then not b else b
 
 abbrev pub majority : Bool → Bool → Bool → Bool
 majority a b c = if a then b || c else b && c
@@ -14,7 +32,7 @@ majority a b c = if a then b || c else b && c
 abbrev pub gate_value : (ℤ → Bool) → Gate → Bool
 gate_value v (gate.And l m) = v l && v m
 gate_value v (gate.Or l m) = v l || v m
-gate_value v (gate.Xor l m) = either (v l) (v m)
+gate_value v (gate.Xor l m) = exclusive_or (v l) (v m)
 gate_value v (gate.Majority l m k) = majority (v l) (v m) (v k)
 gate_value v (gate.Choice c l m) = if v c then v l else v m
 
@@ -33,4 +51,4 @@ equality x (gate.Choice c l m) =
 -- the clauses of gates whose variables are numbered from `n` on
 abbrev pub gates_clauses : ℕ → List Gate → List (List ℤ)
 gates_clauses n [] = []
-gates_clauses n (g ∷ gs) = tidied (equality (pos n) g) ++ gates_clauses (suc n) gs
+gates_clauses n (g ∷ gs) = tidy_clauses (equality (pos n) g) ++ gates_clauses (suc n) gs

@@ -1,5 +1,29 @@
 -- Words: lists of literals, lowest bit first. The literals 1 and -1, of variable 1, are true and false.
-use Rattle.std.specs.Prelude.{ℕ, zero, suc, ◌+◌, ◌*◌, ◌/◌, ◌%◌, ◌==◌, ℤ, pos, negsuc, neg_ℤ, Bool, if◌then◌else◌, List, [], ◌∷◌, ◌++◌, map, length, take, drop, replicate}
+use Rattle.std.specs.Prelude.{
+  ℕ,
+  zero,
+  suc,
+  ◌+◌,
+  ◌*◌,
+  ◌/◌,
+  ◌%◌,
+  ◌==◌,
+  ℤ,
+  pos,
+  negsuc,
+  neg_ℤ,
+  Bool,
+  if◌then◌else◌,
+  List,
+  [],
+  ◌∷◌,
+  ◌++◌,
+  map,
+  length,
+  take,
+  drop,
+  replicate,
+}
 use Rattle.std.specs.List.{slice_index_or}
 use Rattle.bv_term.specs.Words.{flag}
 use Rattle.bit_circuits.specs.declared.gate.Gate.{Gate}
@@ -11,19 +35,19 @@ abbrev pub word_value : (ℤ → Bool) → List ℤ → ℕ
 word_value v [] = 0
 word_value v (l ∷ ls) = flag (v l) + 2 * word_value v ls
 
-abbrev pub truth : ℤ
-truth = pos 1
+abbrev pub true_literal : ℤ
+true_literal = pos 1
 
-abbrev pub falsity : ℤ
-falsity = negsuc 0
+abbrev pub false_literal : ℤ
+false_literal = negsuc 0
 
 abbrev pub falses : ℕ → List ℤ
-falses k = replicate k falsity
+falses k = replicate k false_literal
 
 -- the lowest k bits of a number
-abbrev pub constant : ℕ → ℕ → List ℤ
-constant zero n = []
-constant (suc k) n = (if n % 2 == 0 then falsity else truth) ∷ constant k (n / 2)
+abbrev pub constant_bits : ℕ → ℕ → List ℤ
+constant_bits zero n = []
+constant_bits (suc k) n = (if n % 2 == 0 then false_literal else true_literal) ∷ constant_bits k (n / 2)
 
 -- a truth value, as a word of k bits
 abbrev pub truth_word : ℕ → ℤ → List ℤ
@@ -32,7 +56,7 @@ truth_word (suc k) l = l ∷ falses k
 
 -- the highest bit
 abbrev pub top : List ℤ → ℤ
-top [] = falsity
+top [] = false_literal
 top (l ∷ []) = l
 top (l ∷ m ∷ ms) = top (m ∷ ms)
 
@@ -87,42 +111,42 @@ carry c (x ∷ xs) [] = done c
 carry c (x ∷ xs) (y ∷ ys) = gate (gates.Majority x y c) >>= (λ d. carry d xs ys)
 
 unfoldable pub add : List ℤ → List ℤ → Circuit (List ℤ)
-add xs ys = sum falsity xs ys >>= (λ s. done (lower s))
+add xs ys = sum false_literal xs ys >>= (λ s. done (lower s))
 
 unfoldable pub subtract : List ℤ → List ℤ → Circuit (List ℤ)
-subtract xs ys = sum truth xs (map neg_ℤ ys) >>= (λ s. done (lower s))
+subtract xs ys = sum true_literal xs (map neg_ℤ ys) >>= (λ s. done (lower s))
 
 unfoldable pub negate : List ℤ → Circuit (List ℤ)
 negate xs = subtract (falses (length xs)) xs
 
 unfoldable pub less : List ℤ → List ℤ → Circuit ℤ
-less xs ys = carry truth xs (map neg_ℤ ys) >>= (λ d. done (neg_ℤ d))
+less xs ys = carry true_literal xs (map neg_ℤ ys) >>= (λ d. done (neg_ℤ d))
 
 unfoldable pub less_signed : List ℤ → List ℤ → Circuit ℤ
 less_signed xs ys = less (top_turned xs) (top_turned ys)
 
 unfoldable pub equal : List ℤ → List ℤ → Circuit ℤ
-equal xs ys = differ falsity xs ys >>= (λ d. done (neg_ℤ d))
+equal xs ys = differ false_literal xs ys >>= (λ d. done (neg_ℤ d))
 
 unfoldable pub choose : ℤ → List ℤ → List ℤ → Circuit (List ℤ)
 choose c xs ys = pairwise (gates.Choice c) xs ys
 
 -- the second word where the first is not 0, and else the third
 unfoldable pub if_some : List ℤ → List ℤ → List ℤ → Circuit (List ℤ)
-if_some cs xs ys = any falsity cs >>= (λ c. choose c xs ys)
+if_some cs xs ys = any false_literal cs >>= (λ c. choose c xs ys)
 
 -- ---- products
 
 -- the word where `c` is true, and else 0
-unfoldable pub masked : ℤ → List ℤ → Circuit (List ℤ)
-masked c xs = each (gates.And c) xs
+unfoldable pub masked_word : ℤ → List ℤ → Circuit (List ℤ)
+masked_word c xs = each (gates.And c) xs
 
 -- `sum` has what the rows so far left above the bits that are done
 unfoldable pub rows : List ℤ → List ℤ → List ℤ → Circuit (List ℤ)
 rows so_far xs [] = done []
 rows so_far xs (y ∷ ys) =
-    masked y xs >>= (λ row. sum falsity so_far row >>= (λ s.
-    rows (lower (drop 1 s)) (lower xs) ys >>= (λ ls. done (slice_index_or s 0 falsity ∷ ls))))
+    masked_word y xs >>= (λ row. sum false_literal so_far row >>= (λ s.
+    rows (lower (drop 1 s)) (lower xs) ys >>= (λ ls. done (slice_index_or s 0 false_literal ∷ ls))))
 
 unfoldable pub multiply : List ℤ → List ℤ → Circuit (List ℤ)
 multiply xs ys = rows (falses (length xs)) xs ys
@@ -133,23 +157,23 @@ pub record Divided : Type 0 where
   pub quotient : List ℤ
   pub remainder : List ℤ
 
--- the bits of the dividend from the highest on: each goes below the remainder so far, from which the divisor is taken where
--- it fits. (The highest bit of the remainder so far is false, since there are bits of the dividend left.)
+-- the bits of the dividend from the highest on: each goes below the remainder so far, from which the divisor is taken
+-- where it fits. (The highest bit of the remainder so far is false, since there are bits of the dividend left.)
 unfoldable pub divide : List ℤ → List ℤ → Circuit Divided
 divide [] ds = done (record { quotient = []; remainder = falses (length ds) })
 divide (x ∷ xs) ds =
     divide xs ds >>= (λ higher. let rest = lower (x ∷ higher.remainder) in
-    sum truth rest (map neg_ℤ ds) >>= (λ s.
-    choose (top s) (lower s) rest >>= (λ remainder.
-    done (record { quotient = top s ∷ higher.quotient; remainder = remainder }))))
+    sum true_literal rest (map neg_ℤ ds) >>= (λ s.
+    choose (top s) (lower s) rest >>= (λ remainder_bits.
+    done (record { quotient = top s ∷ higher.quotient; remainder = remainder_bits }))))
 
 -- the quotient, which is 0 where the divisor is
-unfoldable pub quotient : List ℤ → List ℤ → Circuit (List ℤ)
-quotient xs ds = divide xs ds >>= (λ divided. any falsity ds >>= (λ some. masked some divided.quotient))
+unfoldable pub quotient_bits : List ℤ → List ℤ → Circuit (List ℤ)
+quotient_bits xs ds = divide xs ds >>= (λ divided. any false_literal ds >>= (λ some. masked_word some divided.quotient))
 
 -- the remainder, which is the dividend where the divisor is 0
-unfoldable pub remainder : List ℤ → List ℤ → Circuit (List ℤ)
-remainder xs ds = divide xs ds >>= (λ divided. done divided.remainder)
+unfoldable pub remainder_bits : List ℤ → List ℤ → Circuit (List ℤ)
+remainder_bits xs ds = divide xs ds >>= (λ divided. done divided.remainder)
 
 -- 0 less the word where `c` is true
 unfoldable pub negate_if : ℤ → List ℤ → Circuit (List ℤ)
@@ -160,12 +184,13 @@ magnitude xs = negate_if (top xs) xs
 
 unfoldable pub quotient_signed : List ℤ → List ℤ → Circuit (List ℤ)
 quotient_signed xs ds =
-    magnitude xs >>= (λ dividend. magnitude ds >>= (λ divisor. quotient dividend divisor >>= (λ q.
+    magnitude xs >>= (λ dividend. magnitude ds >>= (λ divisor. quotient_bits dividend divisor >>= (λ q.
     gate (gates.Xor (top xs) (top ds)) >>= (λ c. negate_if c q))))
 
 unfoldable pub remainder_signed : List ℤ → List ℤ → Circuit (List ℤ)
 remainder_signed xs ds =
-    magnitude xs >>= (λ dividend. magnitude ds >>= (λ divisor. remainder dividend divisor >>= (λ r. negate_if (top xs) r)))
+    magnitude xs >>= (λ dividend. magnitude ds >>= (λ divisor. remainder_bits dividend divisor >>=
+    (λ r. negate_if (top xs) r)))
 
 -- ---- shifts
 

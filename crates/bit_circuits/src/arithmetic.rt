@@ -1,7 +1,16 @@
 //! Sums, differences, comparisons and choices of words.
 
 ghost use Rattle.std.specs.Prelude.{◌≡◌, IfOk, length};
-ghost use Rattle.bit_circuits.specs.Words.{add as add_of, subtract as subtract_of, negate as negate_of, less as less_of, less_signed as less_signed_of, equal as equal_of, choose as choose_of, if_some as if_some_of};
+ghost use Rattle.bit_circuits.specs.Words.{
+  add as add_of,
+  subtract as subtract_of,
+  negate as negate_of,
+  less as less_of,
+  less_signed as less_signed_of,
+  equal as equal_of,
+  choose as choose_of,
+  if_some as if_some_of,
+};
 ghost use Rattle.bit_circuits.specs.Runs.{Adds};
 
 use crate::gate_words::{any, differ, pairwise};

@@ -1,7 +1,12 @@
 //! Gates for each bit of words.
 
 ghost use Rattle.std.specs.Prelude.{◌≡◌, IfOk, length};
-ghost use Rattle.bit_circuits.specs.Words.{pairwise as pairwise_of, masked as masked_of, any as any_of, differ as differ_of};
+ghost use Rattle.bit_circuits.specs.Words.{
+  pairwise as pairwise_of,
+  masked_word as masked_of,
+  any as any_of,
+  differ as differ_of,
+};
 ghost use Rattle.bit_circuits.specs.Pairs.{gate_of as gate_at};
 ghost use Rattle.bit_circuits.specs.Runs.{Adds};
 
@@ -20,7 +25,8 @@ pub(crate) fn pairwise(
     ys: &[Literal],
 ) -> Result<Vec<Literal>, AllocError>
     requires { length xs.now ≡ length ys.now }
-    ensures { IfOk result (λ bits. Adds (pairwise_of (gate_at kind.now) xs.now ys.now) netlist.old netlist.new bits.items) }
+    ensures { IfOk result (λ bits. Adds (pairwise_of (gate_at kind.now) xs.now ys.now) netlist.old netlist.new
+        bits.items) }
 {
     let mut bits = Vec::new(alloc);
     for i in 0..xs.len() {

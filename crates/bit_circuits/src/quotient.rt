@@ -1,7 +1,11 @@
 //! Quotients and remainders of words.
 
 ghost use Rattle.std.specs.Prelude.{◌≡◌, ◌<◌, IfOk, length};
-ghost use Rattle.bit_circuits.specs.Words.{divide as divide_of, quotient as quotient_of, remainder as remainder_of};
+ghost use Rattle.bit_circuits.specs.Words.{
+  divide as divide_of,
+  quotient_bits as quotient_of,
+  remainder_bits as remainder_of,
+};
 ghost use Rattle.bit_circuits.specs.Runs.{Adds};
 
 use crate::arithmetic::choose;
@@ -28,7 +32,8 @@ fn divide(
     ds: &[Literal],
 ) -> Result<Division, AllocError>
     requires { 0 < length ds.now }
-    ensures { IfOk result (λ both. Adds (divide_of xs.now ds.now) netlist.old netlist.new (record { quotient = both.quotient.items; remainder = both.remainder.items })) }
+    ensures { IfOk result (λ both. Adds (divide_of xs.now ds.now) netlist.old netlist.new
+        (record { quotient = both.quotient.items; remainder = both.remainder.items })) }
 {
     let others = turned(alloc, ds)?;
     let mut quotient = Vec::new(alloc);

@@ -21,7 +21,8 @@ pub(crate) fn stages(
 ) -> Result<Vec<Literal>, AllocError>
     requires five { length count.now ≡ 5 }
     requires wide { length xs.now ≡ 32 }
-    ensures { IfOk result (λ bits. Adds (stages_of (move_of kind.now) 1 count.now xs.now) netlist.old netlist.new bits.items) }
+    ensures { IfOk result (λ bits. Adds (stages_of (move_of kind.now) 1 count.now xs.now) netlist.old netlist.new
+        bits.items) }
 {
     let mut bits = Vec::from_slice(alloc, xs)?;
     let mut places: usize = 1;

@@ -1,7 +1,12 @@
 //! Quotients and remainders of signed words: of magnitudes, with signs.
 
 ghost use Rattle.std.specs.Prelude.{◌≡◌, ◌<◌, IfOk, length};
-ghost use Rattle.bit_circuits.specs.Words.{negate_if as negate_if_of, magnitude as magnitude_of, quotient_signed as quotient_signed_of, remainder_signed as remainder_signed_of};
+ghost use Rattle.bit_circuits.specs.Words.{
+  negate_if as negate_if_of,
+  magnitude as magnitude_of,
+  quotient_signed as quotient_signed_of,
+  remainder_signed as remainder_signed_of,
+};
 ghost use Rattle.bit_circuits.specs.Runs.{Adds};
 
 use crate::arithmetic::{choose, negate};

@@ -5,7 +5,12 @@ ghost use Rattle.cnf_form.specs.Literals.{most};
 ghost use Rattle.bv_term.specs.Stores.{FitFrom};
 ghost use Rattle.bit_circuits.specs.Fitting.{IsOver};
 ghost use Rattle.bit_circuits.specs.Words.{falses as falses_of};
-ghost use Rattle.bit_circuits.specs.Formula.{first_of, bits_at as bits_at_of, op_bits as op_bits_of, terms_bits as terms_bits_of};
+ghost use Rattle.bit_circuits.specs.Formula.{
+  first_of,
+  bits_at as bits_at_of,
+  op_bits as op_bits_of,
+  terms_bits as terms_bits_of,
+};
 ghost use Rattle.bit_circuits.specs.Runs.{Adds, next_of};
 
 use crate::arithmetic::{if_some, negate};
@@ -30,7 +35,8 @@ pub(crate) fn op_bits(
     requires wide { (t : ℕ) → length (bits_at_of (map (λ w. w.items) words.now) t) ≡ 32 }
     requires few { first_of inputs ≤ most }
     requires over { IsOver inputs op.now }
-    ensures { IfOk result (λ bits. Adds (op_bits_of (bits_at_of (map (λ w. w.items) words.now)) op.now) netlist.old netlist.new bits.items) }
+    ensures { IfOk result (λ bits. Adds (op_bits_of (bits_at_of (map (λ w. w.items) words.now)) op.now) netlist.old
+        netlist.new bits.items) }
 {
     match *op {
         Op::Input(n) => input_bits(alloc, n),
@@ -169,7 +175,8 @@ pub fn terms_bits(
     requires few { first_of inputs ≤ most }
     requires past { first_of inputs ≤ next_of netlist.old }
     requires over { FitFrom inputs 0 ops.now }
-    ensures { IfOk result (λ words. Adds (terms_bits_of [] ops.now) netlist.old netlist.new (map (λ w. w.items) words.items)) }
+    ensures { IfOk result (λ words. Adds (terms_bits_of [] ops.now) netlist.old netlist.new
+        (map (λ w. w.items) words.items)) }
 {
     let none = falses(alloc, 32)?;
     let mut words = Vec::new(alloc);

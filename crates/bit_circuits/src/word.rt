@@ -2,7 +2,16 @@
 
 ghost use Rattle.std.specs.Prelude.{◌≡◌, ◌≤◌, ◌+◌, IfOk, length, map, neg_ℤ, drop, slice_index_or};
 ghost use Rattle.cnf_form.specs.Literals.{most};
-ghost use Rattle.bit_circuits.specs.Words.{truth as truth_of, falsity as falsity_of, falses as falses_of, constant as constant_of, truth_word as truth_word_of, top as top_of, lower as lower_of, top_turned as top_turned_of};
+ghost use Rattle.bit_circuits.specs.Words.{
+  true_literal as truth_of,
+  false_literal as falsity_of,
+  falses as falses_of,
+  constant_bits as constant_of,
+  truth_word as truth_word_of,
+  top as top_of,
+  lower as lower_of,
+  top_turned as top_turned_of,
+};
 ghost use Rattle.bit_circuits.specs.Formula.{first_of, input_bits as input_bits_of};
 
 use crate::literal::Literal;

@@ -1,7 +1,7 @@
 //! Lists of numbers on one line.
 
-use crate::wrong::Wrong;
 use c_tree::Input;
+use case_plans::Wrong;
 use sqlite_items::Items;
 use std::alloc::{AllocError, Global};
 

@@ -1,7 +1,7 @@
-//! Cases of boards, line by line. Headings are written as they are, and each case has its answer on one line. A case has
-//! ` ## ` between its parts: the call, the text of a program and its table of costs, with `@` for each line feed, the limit
-//! of turns, and what is given to the call. A path is its edges and an input its values, with blanks between them. The
-//! calls:
+//! Cases of boards, line by line. Headings are written as they are, and each case has its answer on one line. A case
+//! has ` ## ` between its parts: the call, the text of a program and its table of costs, with `@` for each line feed,
+//! the limit of turns, and what is given to the call. A path is its edges and an input its values, with blanks between
+//! them. The calls:
 //!
 //! - `fork ## TEXT ## TABLE ## TURNS ## INPUT`: the split of the first item by an input: its children;
 //! - `path ## TEXT ## TABLE ## TURNS ## INPUT ## EDGES`: what a path and an input settle of the first item;
@@ -11,21 +11,19 @@
 mod case;
 mod lists;
 mod race;
-mod reading;
 mod trials;
 mod words;
-mod wrong;
 
 use board_core::Board;
 use case::Case;
 use case_lines::{is_heading, parts};
+use case_plans::{Wrong, plan_of};
 use flow_graph::Plan;
 use ipet_peak::peak;
 use ipet_rows::{SoundRows, rows};
 use race_item::Limits;
 use std::alloc::{AllocError, Global};
 use std::io;
-use wrong::Wrong;
 
 fn main(rt: HostRuntime) -> io::Result<()> {
     for line in rt.lines(rt.alloc()) {
@@ -51,7 +49,7 @@ fn answer(alloc: Global, line: &str) -> Result<String, AllocError> {
 }
 
 fn answered(alloc: Global, case: &Case) -> Result<String, Wrong> {
-    match reading::plan_of(alloc, case.text, case.table) {
+    match plan_of(alloc, case.text, case.table) {
         Ok(plan) => planned(alloc, case, &plan),
         Err(wrong) => Err(wrong),
     }

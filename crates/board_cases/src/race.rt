@@ -8,9 +8,9 @@ ghost use Rattle.board_cases.specs.Claimed.{Claimed};
 use crate::case::Case;
 use crate::lists::{edges, input, push_apart};
 use crate::words::{of_end, of_item, of_shown};
-use crate::wrong::Wrong;
 use board_core::{Board, Claim, Shown, Ticket};
 use c_tree::Input;
+use case_plans::Wrong;
 use race_item::{Item, by_fork, by_path};
 use std::alloc::Global;
 

@@ -2,8 +2,8 @@
 
 use crate::case::Case;
 use crate::lists::{edges, input, push_apart, shown};
-use crate::wrong::Wrong;
 use board_core::Board;
+use case_plans::Wrong;
 use race_item::{Child, Conclusion, Item, Settlement, by_fork, by_path};
 use std::alloc::{AllocError, Global};
 

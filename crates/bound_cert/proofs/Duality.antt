@@ -16,11 +16,12 @@ use Rattle.lin_rows.specs.declared.row.Row.{Row}
 use Rattle.lin_rows.specs.declared.row.RowKind.{RowKind}
 use Rattle.lin_rows.specs.declared.row.RowKind.TheVariants.{AtMost, Equal}
 use Rattle.lin_rows.specs.declared.row.Rows.{Rows}
-use Rattle.bound_cert.specs.Dual.{weighted_rights, weighted_factors, reduced_cost, best_limit, edge_bounds, undivided}
+use Rattle.bound_cert.specs.Dual.{weighted_rights, weighted_factors, reduced_cost, best_limit, edge_bounds, scaled_bound}
 use Rattle.bound_cert.specs.Fitting.{Takes}
 use Rattle.bound_cert.specs.Law.{WeakDuality}
 use Rattle.bound_cert.proofs.Columns.{columns, weighted_lefts, columns-weighted_factors}
 use Rattle.bound_cert.proofs.Products.{plus-times, times-plus, times-times, times-mono}
+use Rattle.plain_laws.proofs.Zips.{AllZip-length}
 
 -- ---- the rows
 
@@ -86,12 +87,6 @@ at_most_floor (pos k) (pos a) n one h = let least = le-div n a k (omega (arith, 
 
 -- ---- the law
 
-pub AllZip-length : {A B : Type 0} (R : A → B → Type 0) (xs : List A) (bs : List B) → AllZip R xs bs → length xs ≡ length bs
-AllZip-length R [] [] each = refl
-AllZip-length R [] (b ∷ bs) each = absurd each
-AllZip-length R (a ∷ xs) [] each = absurd each
-AllZip-length R (a ∷ xs) (b ∷ bs) each = ap suc (AllZip-length R xs bs each.1)
-
 swap-le : (a b c d : ℤ) → a ≤ℤ (b +ℤ c) → c ≤ℤ d → a ≤ℤ (d +ℤ b)
 swap-le a b c d h k = omega (arith, ints)
 
@@ -103,5 +98,5 @@ weak_duality_lem rows objective within by entries fits x inside met =
     let columns_are = columns-weighted_factors rows.rows by.y x below in
     let lefts = subst (λ z. z ≤ℤ total (weighted_rights rows.rows by.y)) (sym columns_are) (weighted_lefts-le rows.rows by.y x met fits.each) in
     let scaled = edges-le rows by 0 objective.costs within.limits x (entries.costs ∙ sym edges) inside in
-    at_most_floor by.d (undivided rows objective within by) (cost objective x) fits.divisor
+    at_most_floor by.d (scaled_bound rows objective within by) (cost objective x) fits.divisor
     (swap-le (by.d *ℤ pos (cost objective x)) (total (edge_bounds rows by 0 objective.costs within.limits)) (columns (λ k. total (weighted_factors rows.rows by.y k)) 0 x) (total (weighted_rights rows.rows by.y)) scaled lefts)

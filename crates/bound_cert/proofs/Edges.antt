@@ -10,7 +10,7 @@ use Rattle.lin_rows.specs.declared.objective.Objective.{Objective}
 use Rattle.lin_rows.specs.declared.row.Rows.{Rows}
 use Rattle.lin_rows.proofs.StepLists.{stays-nil, stays-cons, stays-append}
 use Rattle.lin_rows.proofs.Summing.{stays-two}
-use Rattle.bound_cert.specs.Dual.{weighted_rights, weighted_factors, edge_bound, edge_bounds, undivided}
+use Rattle.bound_cert.specs.Dual.{weighted_rights, weighted_factors, edge_bound, edge_bounds, scaled_bound}
 use Rattle.std.proofs.lemmas.List.{append_assoc, length-take-le, take-append-drop}
 use Rattle.bound_cert.proofs.Columns.{total-append}
 use Rattle.bound_cert.specs.DualSteps.{edge_steps, edges_steps, dual_steps}
@@ -41,7 +41,7 @@ SomeIff-same (Some x) P Q v out back holds = (back holds.0, holds.1)
 pub record Bounded (rows : Rows) (objective : Objective) (within : CountBox) (by : Multipliers) (edge : ℕ) (sum : ℤ) (costs : List ℕ) (limits : List (ℕ × ℕ)) : Type 0 where
   pub fits : FitsSigned w128 sum
   pub stays : StaysInI128 (dual_steps rows objective within by) ↔ StaysInI128 (edges_steps rows by edge sum costs limits)
-  pub whole : undivided rows objective within by ≡ sum +ℤ total (edge_bounds rows by edge costs limits)
+  pub whole : scaled_bound rows objective within by ≡ sum +ℤ total (edge_bounds rows by edge costs limits)
 
 -- the right sides cannot be added
 pub rights-stop : (rows : Rows) (objective : Objective) (within : CountBox) (by : Multipliers) → ¬ StaysInI128 (addition_steps (pos 0) (weighted_rights rows.rows by.y)) → ¬ StaysInI128 (dual_steps rows objective within by)
@@ -120,5 +120,5 @@ Bounded-next {rows} {by = by} {edge} {sum} {costs} {limits} n h same b own fits 
     }
 
 -- all edges are added
-pub Bounded-all : {rows : Rows} {objective : Objective} {within : CountBox} {by : Multipliers} {edge : ℕ} {sum : ℤ} {limits : List (ℕ × ℕ)} → Bounded rows objective within by edge sum [] limits → StaysInI128 (dual_steps rows objective within by) × (sum ≡ undivided rows objective within by)
+pub Bounded-all : {rows : Rows} {objective : Objective} {within : CountBox} {by : Multipliers} {edge : ℕ} {sum : ℤ} {limits : List (ℕ × ℕ)} → Bounded rows objective within by edge sum [] limits → StaysInI128 (dual_steps rows objective within by) × (sum ≡ scaled_bound rows objective within by)
 Bounded-all {sum} b = (b.stays.1 stays-nil, sym (b.whole ∙ +ℤ_idr sum))

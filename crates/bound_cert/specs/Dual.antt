@@ -1,7 +1,24 @@
 -- The dual value of multipliers over a box, as a number.
 -- Each row is multiplied by its multiplier, and the rows are added. What is left of d times an edge's cost then counts
 -- at the limit of the edge where it comes to most.
-use Rattle.std.specs.Prelude.{ℕ, ℤ, pos, ◌+◌, ◌+ℤ◌, ◌-ℤ◌, ◌*ℤ◌, ◌==◌, List, [], ◌∷◌, ◌++◌, map, filter, int_le, if◌then◌else◌}
+use Rattle.std.specs.Prelude.{
+  ℕ,
+  ℤ,
+  pos,
+  ◌+◌,
+  ◌+ℤ◌,
+  ◌-ℤ◌,
+  ◌*ℤ◌,
+  ◌==◌,
+  List,
+  [],
+  ◌∷◌,
+  ◌++◌,
+  map,
+  filter,
+  int_le,
+  if◌then◌else◌,
+}
 use Rattle.std.specs.Int.{int_div_euclid}
 use Rattle.lin_rows.specs.Steps.{total}
 use Rattle.lin_rows.specs.declared.count_box.CountBox.{CountBox}
@@ -52,13 +69,13 @@ edge_bounds rows by edge [] limits = []
 edge_bounds rows by edge (cost ∷ costs) [] = []
 
 -- d times the bound, before it is divided
-abbrev pub undivided : Rows → Objective → CountBox → Multipliers → ℤ
-undivided rows objective within by =
+abbrev pub scaled_bound : Rows → Objective → CountBox → Multipliers → ℤ
+scaled_bound rows objective within by =
     total (weighted_rights rows.rows by.y) +ℤ total (edge_bounds rows by 0 objective.costs within.limits)
 
 -- the dual value: divided by d, which is at least 1, and rounded down
 abbrev pub dual : Rows → Objective → CountBox → Multipliers → ℤ
-dual rows objective within by = int_div_euclid (undivided rows objective within by) by.d
+dual rows objective within by = int_div_euclid (scaled_bound rows objective within by) by.d
 
 -- the dual value without a box: the weighted right sides alone, divided by d and rounded down
 abbrev pub dual_of_rows : Rows → Multipliers → ℤ

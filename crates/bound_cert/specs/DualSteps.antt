@@ -23,7 +23,8 @@ edge_steps rows by edge s cost limit =
 -- the steps of each edge in order, from an edge on
 abbrev pub edges_steps : Rows → Multipliers → ℕ → ℤ → List ℕ → List (ℕ × ℕ) → List ℤ
 edges_steps rows by edge s (cost ∷ costs) (limit ∷ limits) =
-    edge_steps rows by edge s cost limit ++ edges_steps rows by (edge + 1) (s +ℤ edge_bound rows by edge cost limit) costs limits
+    edge_steps rows by edge s cost limit ++ edges_steps rows by (edge + 1) (s +ℤ edge_bound rows by edge cost limit)
+    costs limits
 edges_steps rows by edge s [] limits = []
 edges_steps rows by edge s (cost ∷ costs) [] = []
 

@@ -22,7 +22,8 @@ pub record HaveEntries (rows : Rows) (objective : Objective) (within : CountBox)
 -- weak duality: the dual value of multipliers that fit is a bound
 abbrev pub WeakDuality : Type 0
 WeakDuality =
-    (rows : Rows) (objective : Objective) (within : CountBox) (by : Multipliers) → HaveEntries rows objective within → FitsRows rows by → IsBound rows objective within (dual rows objective within by)
+    (rows : Rows) (objective : Objective) (within : CountBox) (by : Multipliers) → HaveEntries rows objective within
+    → FitsRows rows by → IsBound rows objective within (dual rows objective within by)
 
 -- ---- without a box
 
@@ -42,9 +43,12 @@ IsBoundOfAll rows objective v =
 -- the dual value of multipliers that cover the costs is the same over every box from 0 on: that of the rows alone
 abbrev pub DualOfCovered : Type 0
 DualOfCovered =
-    (rows : Rows) (objective : Objective) (within : CountBox) (by : Multipliers) → BeginsAtZero within → CoversCosts rows objective by → dual rows objective within by ≡ dual_of_rows rows by
+    (rows : Rows) (objective : Objective) (within : CountBox) (by : Multipliers) → BeginsAtZero within
+    → CoversCosts rows objective by → dual rows objective within by ≡ dual_of_rows rows by
 
--- weak duality without a box: the dual value of the rows, of multipliers that fit and cover the costs, bounds all vectors
+-- weak duality without a box: the dual value of the rows, of multipliers that fit and cover the costs, bounds all
+-- vectors
 abbrev pub WeakDualityWithoutBox : Type 0
 WeakDualityWithoutBox =
-    (rows : Rows) (objective : Objective) (by : Multipliers) → length objective.costs ≡ rows.edges → FitsRows rows by → CoversCosts rows objective by → IsBoundOfAll rows objective (dual_of_rows rows by)
+    (rows : Rows) (objective : Objective) (by : Multipliers) → length objective.costs ≡ rows.edges → FitsRows rows by
+    → CoversCosts rows objective by → IsBoundOfAll rows objective (dual_of_rows rows by)

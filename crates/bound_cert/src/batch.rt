@@ -24,7 +24,8 @@ pub(crate) fn add_batch(
     requires rows { length rows.now.rows ≡ length by.now.y }
     requires limits { length costs.now ≡ length limits.now }
     requires room { length costs.now ≤ BATCH }
-    ensures { SomeIff result (StaysInI128 (edges_steps rows.now by.now first sum costs.now limits.now)) (sum +ℤ total (edge_bounds rows.now by.now first costs.now limits.now)) }
+    ensures { SomeIff result (StaysInI128 (edges_steps rows.now by.now first sum costs.now limits.now))
+        (sum +ℤ total (edge_bounds rows.now by.now first costs.now limits.now)) }
 {
     let mut room = [0; BATCH];
     let reduced = &mut room[..costs.len()];
@@ -76,7 +77,8 @@ fn less_terms(terms: &[(u16, i128)], y: i128, first: usize, reduced: &mut [i128]
 // `sum` and each reduced cost times the count at which it comes to most.
 fn add_best(sum: i128, reduced: &[i128], limits: &[(u64, u64)]) -> Option<i128>
     requires { length reduced.now ≡ length limits.now }
-    ensures { SomeIff result (StaysInI128 (addition_steps sum (best_products reduced.now limits.now))) (sum +ℤ total (best_products reduced.now limits.now)) }
+    ensures { SomeIff result (StaysInI128 (addition_steps sum (best_products reduced.now limits.now)))
+        (sum +ℤ total (best_products reduced.now limits.now)) }
 {
     let mut sum = sum;
     for (i, left) in reduced.iter().enumerate() {

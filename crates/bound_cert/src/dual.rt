@@ -15,13 +15,13 @@ use lin_rows::{CountBox, Multipliers, Objective, Row, Rows, add_product};
 /// exactly where a step of its written order leaves `i128`. The order:
 ///
 /// - s begins at 0, and for each row in order its multiplier times its right side is added to s;
-/// - for each edge in order, r begins at `d` times its cost, and for each row in order that names the edge its multiplier
-///   times its factor is taken from r; then r times the edge's greatest count is added to s where r is at least 0, else
-///   r times its least count;
+/// - for each edge in order, r begins at `d` times its cost, and for each row in order that names the edge its
+/// multiplier times its factor is taken from r; then r times the edge's greatest count is added to s where r is at
+/// least 0, else r times its least count;
 /// - the bound is s divided by `d`, rounded down.
 ///
-/// It takes no memory. Its rows are passed over once for each 64 edges, so its time grows with the edges times the terms of
-/// all rows, divided by 64: for 2,048 edges that two rows name each, some hundred thousand short steps.
+/// It takes no memory. Its rows are passed over once for each 64 edges, so its time grows with the edges times the
+/// terms of all rows, divided by 64: for 2,048 edges that two rows name each, some hundred thousand short steps.
 pub fn dual_bound(
     rows: &Rows,
     objective: &Objective,
@@ -55,7 +55,8 @@ pub fn dual_bound(
 // The sum of multiplier times right side over the rows.
 fn right_sides(rows: &[Row], y: &[i128]) -> Option<i128>
     requires { length rows.now ≡ length y.now }
-    ensures { SomeIff result (StaysInI128 (addition_steps (pos 0) (weighted_rights rows.now y.now))) (total (weighted_rights rows.now y.now)) }
+    ensures { SomeIff result (StaysInI128 (addition_steps (pos 0) (weighted_rights rows.now y.now)))
+        (total (weighted_rights rows.now y.now)) }
 {
     let mut sum: i128 = 0;
     for (i, row) in rows.iter().enumerate() {

@@ -6,8 +6,8 @@ ghost use Rattle.bound_cert.specs.Fitting.{FitsRows, Takes};
 
 use lin_rows::{Multipliers, Row, RowKind, Rows};
 
-/// Whether the multipliers may be used with the rows: `d` is at least 1, there is one multiplier a row, and those of the
-/// `AtMost` rows are not negative. It takes no memory.
+/// Whether the multipliers may be used with the rows: `d` is at least 1, there is one multiplier a row, and those of
+/// the `AtMost` rows are not negative. It takes no memory.
 pub fn by_fits(rows: &Rows, by: &Multipliers) -> bool
     ensures { IsTrue result ↔ FitsRows rows.now by.now }
 {

@@ -5,9 +5,11 @@ use Rattle.std.specs.List.{list_any}
 use Rattle.std.proofs.lemmas.List.{length-append, append-nil}
 use Rattle.c_tree.specs.declared.program.Input.{Input}
 use Rattle.bv_term.specs.declared.op.Op.{Op}
-use Rattle.bv_term.specs.Words.{word_of}
-use Rattle.bv_term.specs.Stores.{Terms, is_same_op, ops_with, words_from, input_word, words, tv}
+use Rattle.bv_term.specs.Words.{op_word}
+use Rattle.bv_term.specs.Stores.{Terms, is_same_op, ops_with, words_from, input_word, op_words, tv}
 use Rattle.bv_fold.specs.Folding.{IsExtended}
+use Rattle.plain_laws.proofs.Lists.{index-front}
+use Rattle.bv_term.proofs.ValueLaws.{words_kept, words_then, words_many}
 
 -- ---- lists that go on
 
@@ -16,38 +18,17 @@ kept_op [] ys t o is = absurd (cc is)
 kept_op (x ∷ xs) ys zero o is = is
 kept_op (x ∷ xs) ys (suc t) o is = kept_op xs ys t o is
 
-kept_word : (xs ys : List ℕ) (t : ℕ) → t < length xs → slice_index (xs ++ ys) t ≡ slice_index xs t
-kept_word [] ys t h = absurd (omega arith)
-kept_word (x ∷ xs) ys zero h = refl
-kept_word (x ∷ xs) ys (suc t) h = kept_word xs ys t (omega arith)
-
 -- ---- words
 
-words_kept : (input : ℕ → ℕ) (ws : List ℕ) (ops : List Op) (t : ℕ) → t < length ws → slice_index (words_from input ws ops) t ≡ slice_index ws t
-words_kept input ws [] t h = refl
-words_kept input ws (o ∷ ops) t h =
-    let more : List ℕ = word_of input (slice_index ws) o ∷ [] in
-    words_kept input (ws ++ more) ops t (omega (arith, length-append ws more)) ∙ kept_word ws more t h
-
-words_then : (input : ℕ → ℕ) (ws : List ℕ) (xs ys : List Op) → words_from input ws (xs ++ ys) ≡ words_from input (words_from input ws xs) ys
-words_then input ws [] ys = refl
-words_then input ws (x ∷ xs) ys = words_then input (ws ++ word_of input (slice_index ws) x ∷ []) xs ys
-
-words_many : (input : ℕ → ℕ) (ws : List ℕ) (ops : List Op) → length (words_from input ws ops) ≡ length ws + length ops
-words_many input ws [] = omega arith
-words_many input ws (o ∷ ops) =
-    let more : List ℕ = word_of input (slice_index ws) o ∷ [] in
-    omega (arith, words_many input (ws ++ more) ops, length-append ws more)
-
 -- there is a word for each term
-pub words_count : (terms : Terms) (i : Input) → length (words terms.ops i.values) ≡ length terms.ops
-unfolding words
+pub words_count : (terms : Terms) (i : Input) → length (op_words terms.ops i.values) ≡ length terms.ops
+unfolding op_words
 words_count terms i = omega (arith, words_many (input_word i.values) [] terms.ops)
 
 -- ---- stores
 
 pub tv_kept : (old new : Terms) (t : ℕ) (i : Input) → IsExtended old new → t < length old.ops → tv new t i ≡ tv old t i
-unfolding tv words
+unfolding tv op_words
 tv_kept old new t i e within =
     let input : ℕ → ℕ = input_word i.values in
     ap (λ ops. slice_index (words_from input [] ops) t) e.ops

@@ -4,12 +4,12 @@ use Rattle.std.specs.Prelude.{slice_get, slice_index, replicate, Contains, IsSom
 use Rattle.std.proofs.lemmas.Bool.{and_from, cases_order}
 use Rattle.std.proofs.lemmas.List.{length-append}
 use Rattle.c_tree.specs.declared.program.Input.{Input}
-use Rattle.c_tree.specs.Runs.{are_of}
+use Rattle.c_tree.specs.Meaning.Runs.{are_of}
 use Rattle.bv_term.specs.declared.op.Op.{Op}
 use Rattle.bv_term.specs.declared.op.Op.TheVariants as op
-use Rattle.bv_term.specs.Stores.{Terms, AreTerms, tv, words, fits_store, declared_ty}
+use Rattle.bv_term.specs.Stores.{Terms, AreTerms, tv, op_words, fits_store, declared_ty}
 use Rattle.bv_fold.specs.Folding.{operands, is_input, HasNoInput, NoInput, IsConst, IsExtended, IsFold}
-use Rattle.bv_fold.specs.Steps.{AreBelow, renamed, is_const, are_consts, is_over_constants, zeros, AreWords, IsSame, AreSame, HasConstants}
+use Rattle.bv_fold.specs.Steps.{AreBelow, renamed_op, is_const, are_consts, is_over_constants, zeros, AreWords, IsSame, AreSame, HasConstants}
 use Rattle.bv_fold.proofs.Extended.{kept_op, tv_kept, words_count}
 use Rattle.bv_fold.proofs.Renamed.{operands_below, is_input_renamed, operands_renamed}
 use Rattle.bv_fold.proofs.Folds.{fits_at, zeros_fit}
@@ -104,9 +104,9 @@ has_constants first now folded term e fit count consts (NoInput _ o is other bel
     let within : AreBelow term (operands o) = operands_below (length now.inputs) term o (fits_at now term o fit here) in
     let mapped : are_consts now.ops (map to (operands o)) ≡ true =
     are_consts_mapped now.ops to (operands o) (λ s h. const_is (slice_get now.ops (to s)) (consts s (omega (arith, count, below_of term (operands o) s within h)) (below s h))) in
-    let over : is_over_constants now.ops (renamed to o) ≡ true =
-    and_from (not (is_input (renamed to o))) (are_consts now.ops (operands (renamed to o))) (ap not (is_input_renamed to o ∙ other)) (ap (are_consts now.ops) (operands_renamed to o) ∙ mapped) in
-    subst (λ x. IsSomeAnd x (λ o. IsTrue (is_over_constants now.ops (renamed to o)))) (sym here) over
+    let over : is_over_constants now.ops (renamed_op to o) ≡ true =
+    and_from (not (is_input (renamed_op to o))) (are_consts now.ops (operands (renamed_op to o))) (ap not (is_input_renamed to o ∙ other)) (ap (are_consts now.ops) (operands_renamed to o) ∙ mapped) in
+    subst (λ x. IsSomeAnd x (λ o. IsTrue (is_over_constants now.ops (renamed_op to o)))) (sym here) over
 
 -- ---- the outcome
 
@@ -137,9 +137,9 @@ folded_is r first old new folded term d e fit count below consts same const =
 pub zeros_as : (terms : Terms) (xs : List ℤ) → xs ≡ replicate (length terms.inputs) (pos 0) → fits_store terms (record { values = xs }) ≡ true
 zeros_as terms xs is = ap (λ l. are_of (map declared_ty terms.inputs) l) is ∙ zeros_fit terms
 
-pub words_are : (terms : Terms) (xs : List ℤ) (ws : List ℕ) → xs ≡ replicate (length terms.inputs) (pos 0) → ws ≡ words terms.ops xs → AreWords terms ws
+pub words_are : (terms : Terms) (xs : List ℤ) (ws : List ℕ) → xs ≡ replicate (length terms.inputs) (pos 0) → ws ≡ op_words terms.ops xs → AreWords terms ws
 unfolding tv
-words_are terms xs ws is value = record { each = λ t h. ap (λ l. slice_index l t) (value ∙ ap (words terms.ops) is) }
+words_are terms xs ws is value = record { each = λ t h. ap (λ l. slice_index l t) (value ∙ ap (op_words terms.ops) is) }
 
-pub words_as_many : (terms : Terms) (xs : List ℤ) (ws : List ℕ) → ws ≡ words terms.ops xs → length ws ≡ length terms.ops
+pub words_as_many : (terms : Terms) (xs : List ℤ) (ws : List ℕ) → ws ≡ op_words terms.ops xs → length ws ≡ length terms.ops
 words_as_many terms xs ws value = ap (λ l. length l) value ∙ words_count terms (record { values = xs })

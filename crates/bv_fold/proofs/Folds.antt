@@ -4,18 +4,19 @@ use Rattle.std.specs.Prelude.{slice_get, slice_index, replicate}
 use Rattle.std.proofs.lemmas.Bool.{and_parts}
 use Rattle.std.proofs.lemmas.Option.{slice_get_within}
 use Rattle.c_tree.specs.declared.program.Input.{Input}
-use Rattle.c_tree.specs.Runs.{are_of}
+use Rattle.c_tree.specs.Meaning.Runs.{are_of}
 use Rattle.bv_term.specs.declared.op.Op.{Op}
 use Rattle.bv_term.specs.declared.op.Op.TheVariants as op
-use Rattle.bv_term.specs.Words.{word_of}
-use Rattle.bv_term.specs.Stores.{Terms, AreTerms, FitsOp, FitFrom, ops_with, number_of, input_word, tv, fits_store, declared_ty}
+use Rattle.bv_term.specs.Words.{op_word}
+use Rattle.bv_term.specs.Stores.{Terms, AreTerms, FitsOp, FitFrom, ops_with, op_number, input_word, tv, fits_store, declared_ty}
 use Rattle.bv_term.proofs.PutLaws.{put_found, put_within, put_fits}
 use Rattle.bv_term.proofs.ValueLaws.{tv_of_op}
 use Rattle.bv_term.proofs.WordLaws.{SameBelow, word_same}
 use Rattle.bv_fold.specs.Folding.{operands, is_input, IsExtended}
-use Rattle.bv_fold.specs.Steps.{renamed, is_const, are_consts, is_over_constants, zeros, AreWords, IsSame, AreSame}
+use Rattle.bv_fold.specs.Steps.{renamed_op, is_const, are_consts, is_over_constants, zeros, AreWords, IsSame, AreSame}
 use Rattle.bv_fold.proofs.Extended.{tv_kept, put_extends}
 use Rattle.bv_fold.proofs.Renamed.{word_renamed, AreSameAt, word_on_operands, renamed_fits}
+use Rattle.plain_laws.proofs.Booleans.{false_from_not}
 
 -- ---- the store
 
@@ -58,7 +59,7 @@ to_fold folded = slice_index folded
 -- the word of a term is that of its operator over the folds of its operands
 over_folds_word : (terms : Terms) (i : Input) (folded : List ℕ) (term : ℕ) (o : Op)
     → AreTerms terms → slice_get terms.ops term ≡ Some o → length folded ≡ term → AreSame terms folded → fits_store terms i ≡ true
-    → word_of (input_word i.values) (λ s. tv terms s i) (renamed (slice_index folded) o) ≡ tv terms term i
+    → op_word (input_word i.values) (λ s. tv terms s i) (renamed_op (slice_index folded) o) ≡ tv terms term i
 over_folds_word terms i folded term o fit is count folds fits =
     let same : SameBelow term (λ s. tv terms (slice_index folded s) i) (λ s. tv terms s i) = record { each = λ s below. (folds.each s (omega (arith, count, below))).value i fits } in
     word_renamed (input_word i.values) (λ s. tv terms s i) (slice_index folded) o
@@ -68,7 +69,7 @@ over_folds_word terms i folded term o fit is count folds fits =
 -- it can be put
 pub over_folds_fits : (terms : Terms) (folded : List ℕ) (term : ℕ) (o : Op)
     → AreTerms terms → slice_get terms.ops term ≡ Some o → length folded ≡ term → AreSame terms folded
-    → FitsOp (length terms.inputs) (length terms.ops) (renamed (slice_index folded) o)
+    → FitsOp (length terms.inputs) (length terms.ops) (renamed_op (slice_index folded) o)
 over_folds_fits terms folded term o fit is count folds =
     renamed_fits (length terms.inputs) term (length terms.ops) (slice_index folded) o (fits_at terms term o fit is) (λ s below. (folds.each s (omega (arith, count, below))).there)
 
@@ -77,14 +78,14 @@ over_folds_fits terms folded term o fit is count folds =
 -- the word of what is put
 put_word : (old new : Terms) (o : Op) (i : Input) → AreTerms old → FitsOp (length old.inputs) (length old.ops) o
     → new.inputs ≡ old.inputs → new.ops ≡ ops_with o old.ops
-    → tv new (number_of o old.ops) i ≡ word_of (input_word i.values) (λ s. tv new s i) o
+    → tv new (op_number o old.ops) i ≡ op_word (input_word i.values) (λ s. tv new s i) o
 put_word old new o i fit fits inputs ops =
     let puts : FitFrom (length old.inputs) 0 (ops_with o old.ops) = put_fits (length old.inputs) o 0 old.ops fit (subst (λ n. FitsOp (length old.inputs) n o) (sym (none_before (length old.ops))) fits) in
     let fit_new : AreTerms new = subst (λ l. FitFrom l 0 new.ops) (sym (ap length inputs)) (subst (FitFrom (length old.inputs) 0) (sym ops) puts) in
-    tv_of_op new i (number_of o old.ops) o fit_new (ap (λ l. slice_get l (number_of o old.ops)) ops ∙ put_found o old.ops)
+    tv_of_op new i (op_number o old.ops) o fit_new (ap (λ l. slice_get l (op_number o old.ops)) ops ∙ put_found o old.ops)
 
-there_put : (old new : Terms) (o : Op) → new.ops ≡ ops_with o old.ops → number_of o old.ops < length new.ops
-there_put old new o ops = subst (λ l. number_of o old.ops < length l) (sym ops) (put_within o old.ops)
+there_put : (old new : Terms) (o : Op) → new.ops ≡ ops_with o old.ops → op_number o old.ops < length new.ops
+there_put old new o ops = subst (λ l. op_number o old.ops < length l) (sym ops) (put_within o old.ops)
 
 fits_back : (old new : Terms) (i : Input) → new.inputs ≡ old.inputs → fits_store new i ≡ true → fits_store old i ≡ true
 fits_back old new i inputs fits = sym (ap (λ l. are_of (map declared_ty l) i.values) inputs) ∙ fits
@@ -92,13 +93,13 @@ fits_back old new i inputs fits = sym (ap (λ l. are_of (map declared_ty l) i.va
 -- the operator over the folds is put
 pub put_is_same : (old new : Terms) (folded : List ℕ) (term : ℕ) (o : Op)
     → AreTerms old → slice_get old.ops term ≡ Some o → length folded ≡ term → AreSame old folded
-    → new.inputs ≡ old.inputs → new.ops ≡ ops_with (renamed (slice_index folded) o) old.ops
-    → IsSame new term (number_of (renamed (slice_index folded) o) old.ops)
+    → new.inputs ≡ old.inputs → new.ops ≡ ops_with (renamed_op (slice_index folded) o) old.ops
+    → IsSame new term (op_number (renamed_op (slice_index folded) o) old.ops)
 put_is_same old new folded term o fit is count folds inputs ops = record {
-  there = there_put old new (renamed (slice_index folded) o) ops;
+  there = there_put old new (renamed_op (slice_index folded) o) ops;
   value = λ i fits.
       let input : ℕ → ℕ = input_word i.values in
-      let over : Op = renamed (slice_index folded) o in
+      let over : Op = renamed_op (slice_index folded) o in
       let over_fits = over_folds_fits old folded term o fit is count folds in
       let extends : IsExtended old new = put_extends old new over inputs ops in
       let kept : SameBelow (length old.ops) (λ s. tv new s i) (λ s. tv old s i) = record { each = λ s below. tv_kept old new s i extends below } in
@@ -128,29 +129,25 @@ consts_same terms i j (s ∷ t ∷ ss) fit are =
     let both = and_parts (is_const (slice_get terms.ops s)) (are_consts terms.ops (t ∷ ss)) are in
     (const_same terms i j s fit both.0, consts_same terms i j (t ∷ ss) fit both.1)
 
-not_true : (b : Bool) → not b ≡ true → b ≡ false
-not_true true h = absurd (cc h)
-not_true false h = refl
-
 -- over constants, the word at one input is that at every input
 pub constant_is_same : (old new : Terms) (words folded : List ℕ) (term : ℕ) (o : Op)
     → AreTerms old → slice_get old.ops term ≡ Some o → length folded ≡ term → AreSame old folded
     → AreWords old words → term < length words → slice_index words term < 2 ^ 32
-    → is_over_constants old.ops (renamed (slice_index folded) o) ≡ true
+    → is_over_constants old.ops (renamed_op (slice_index folded) o) ≡ true
     → new.inputs ≡ old.inputs → new.ops ≡ ops_with (op.Const (slice_index words term)) old.ops
-    → IsSame new term (number_of (op.Const (slice_index words term)) old.ops)
+    → IsSame new term (op_number (op.Const (slice_index words term)) old.ops)
 constant_is_same old new words folded term o fit is count folds are within small over_consts inputs ops = record {
   there = there_put old new (op.Const (slice_index words term)) ops;
   value = λ i fits.
       let w : ℕ = slice_index words term in
-      let over : Op = renamed (slice_index folded) o in
+      let over : Op = renamed_op (slice_index folded) o in
       let z : Input = zeros old in
       let both = and_parts (not (is_input over)) (are_consts old.ops (operands over)) over_consts in
       let extends : IsExtended old new = put_extends old new (op.Const w) inputs ops in
       put_word old new (op.Const w) i fit small inputs ops
       ∙ are.each term within
       ∙ sym (over_folds_word old z folded term o fit is count folds (zeros_fit old))
-      ∙ word_on_operands (input_word z.values) (input_word i.values) (λ s. tv old s z) (λ s. tv old s i) over (not_true (is_input over) both.0) (consts_same old z i (operands over) fit both.1)
+      ∙ word_on_operands (input_word z.values) (input_word i.values) (λ s. tv old s z) (λ s. tv old s i) over (false_from_not (is_input over) both.0) (consts_same old z i (operands over) fit both.1)
       ∙ over_folds_word old i folded term o fit is count folds (fits_back old new i inputs fits)
       ∙ sym (tv_kept old new term i extends (slice_get_within old.ops term o is));
 }

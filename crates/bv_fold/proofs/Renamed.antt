@@ -3,13 +3,13 @@ use Rattle.std.proofs.Common.{◌≡◌, ◌<◌, ℕ, false, List, [], ◌∷�
 use Rattle.std.specs.Prelude.{map}
 use Rattle.bv_term.specs.declared.op.Op.{Op}
 use Rattle.bv_term.specs.declared.op.Op.TheVariants as op
-use Rattle.bv_term.specs.Words.{word_of}
+use Rattle.bv_term.specs.Words.{op_word}
 use Rattle.bv_term.specs.Stores.{FitsOp}
 use Rattle.bv_fold.specs.Folding.{operands, is_input}
-use Rattle.bv_fold.specs.Steps.{renamed, AreBelow}
+use Rattle.bv_fold.specs.Steps.{renamed_op, AreBelow}
 
 -- over renamed operands it is that over their words
-pub word_renamed : (input at to : ℕ → ℕ) (o : Op) → word_of input at (renamed to o) ≡ word_of input (λ s. at (to s)) o
+pub word_renamed : (input at to : ℕ → ℕ) (o : Op) → op_word input at (renamed_op to o) ≡ op_word input (λ s. at (to s)) o
 word_renamed input at to (op.Input n) = refl
 word_renamed input at to (op.Const n) = refl
 word_renamed input at to (op.Not a) = refl
@@ -38,7 +38,7 @@ AreSameAt f g [] = Unit {0}
 AreSameAt f g (s ∷ ss) = (f s ≡ g s) × AreSameAt f g ss
 
 -- the word of an operator that is no input depends on those of its operands alone
-pub word_on_operands : (input other f g : ℕ → ℕ) (o : Op) → is_input o ≡ false → AreSameAt f g (operands o) → word_of input f o ≡ word_of other g o
+pub word_on_operands : (input other f g : ℕ → ℕ) (o : Op) → is_input o ≡ false → AreSameAt f g (operands o) → op_word input f o ≡ op_word other g o
 word_on_operands input other f g (op.Input n) other_op h = absurd (cc other_op)
 word_on_operands input other f g (op.Const n) _ h = refl
 word_on_operands input other f g (op.Not a) _ h = cc h.0
@@ -85,7 +85,7 @@ operands_below inputs k (op.LtU a b) h = (h.0, (h.1, tt))
 operands_below inputs k (op.LtS a b) h = (h.0, (h.1, tt))
 operands_below inputs k (op.Ite c a b) h = (h.0, (h.1, (h.2, tt)))
 
-pub renamed_fits : (inputs k many : ℕ) (to : ℕ → ℕ) (o : Op) → FitsOp inputs k o → ((s : ℕ) → s < k → to s < many) → FitsOp inputs many (renamed to o)
+pub renamed_fits : (inputs k many : ℕ) (to : ℕ → ℕ) (o : Op) → FitsOp inputs k o → ((s : ℕ) → s < k → to s < many) → FitsOp inputs many (renamed_op to o)
 renamed_fits inputs k many to (op.Input n) h below = h
 renamed_fits inputs k many to (op.Const n) h below = h
 renamed_fits inputs k many to (op.Not a) h below = below a h
@@ -108,7 +108,7 @@ renamed_fits inputs k many to (op.LtU a b) h below = (below a h.0, below b h.1)
 renamed_fits inputs k many to (op.LtS a b) h below = (below a h.0, below b h.1)
 renamed_fits inputs k many to (op.Ite c a b) h below = (below c h.0, below a h.1, below b h.2)
 
-pub is_input_renamed : (to : ℕ → ℕ) (o : Op) → is_input (renamed to o) ≡ is_input o
+pub is_input_renamed : (to : ℕ → ℕ) (o : Op) → is_input (renamed_op to o) ≡ is_input o
 is_input_renamed to (op.Input n) = refl
 is_input_renamed to (op.Const n) = refl
 is_input_renamed to (op.Not a) = refl
@@ -131,7 +131,7 @@ is_input_renamed to (op.LtU a b) = refl
 is_input_renamed to (op.LtS a b) = refl
 is_input_renamed to (op.Ite c a b) = refl
 
-pub operands_renamed : (to : ℕ → ℕ) (o : Op) → operands (renamed to o) ≡ map to (operands o)
+pub operands_renamed : (to : ℕ → ℕ) (o : Op) → operands (renamed_op to o) ≡ map to (operands o)
 operands_renamed to (op.Input n) = refl
 operands_renamed to (op.Const n) = refl
 operands_renamed to (op.Not a) = refl

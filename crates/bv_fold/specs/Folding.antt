@@ -1,5 +1,21 @@
 -- Folding: terms of the same value, which are constants where no input stands below them. This project's own.
-use Rattle.std.specs.Prelude.{◌≡◌, ◌<◌, ℕ, Bool, true, false, List, [], ◌∷◌, ◌++◌, length, Contains, slice_get, Option, Some}
+use Rattle.std.specs.Prelude.{
+  ◌≡◌,
+  ◌<◌,
+  ℕ,
+  Bool,
+  true,
+  false,
+  List,
+  [],
+  ◌∷◌,
+  ◌++◌,
+  length,
+  Contains,
+  slice_get,
+  Option,
+  Some,
+}
 use Rattle.c_tree.specs.declared.program.Input.{Input}
 use Rattle.bv_term.specs.declared.op.Op.{Op}
 use Rattle.bv_term.specs.declared.op.Op.TheVariants as op

@@ -3,14 +3,14 @@
 ghost use Rattle.std.specs.Prelude.{◌≡◌, ◌<◌, length, slice_get, slice_index};
 ghost use Rattle.bv_fold.specs.Folding.{operands};
 ghost use Rattle.bv_fold.specs.Steps as steps;
-ghost use Rattle.bv_fold.specs.Steps.{AreBelow, renamed, is_const};
+ghost use Rattle.bv_fold.specs.Steps.{AreBelow, renamed_op, is_const};
 
 use bv_term::{Op, Terms};
 
 /// The operator over the folds of its operands, where `folded` has the numbers of the folds.
 pub(crate) fn over_folds(op: Op, folded: &[u32]) -> Op
     requires { AreBelow (length folded.now) (operands op) }
-    ensures { result ≡ renamed (slice_index folded.now) op }
+    ensures { result ≡ renamed_op (slice_index folded.now) op }
 {
     match op {
         Op::Input(n) => Op::Input(n),

@@ -3,8 +3,8 @@ use Rattle.std.proofs.Common.{◌≡◌, ℕ, ◌-◌, ◌<◌, ◌≤◌, zero,
 use Rattle.std.specs.Prelude.{slice_get}
 use Rattle.c_tree.specs.declared.unit.RawTop.{RawTop}
 use Rattle.c_tree.specs.declared.unit.RawTop.TheVariants as top
-use Rattle.c_tree.specs.Refusals.{outer_count, outer_inputs}
-use Rattle.c_resolve.proofs.Steps.{append_nil}
+use Rattle.c_tree.specs.Checking.Refusals.{outer_count, outer_inputs}
+use Rattle.std.proofs.lemmas.List.{append-nil}
 
 pub among_copies : {A : Type 0} (n : ℕ) (x : A) (ys : List A) (k : ℕ) → k < n → slice_get (replicate n x ++ ys) k ≡ Some x
 among_copies zero x ys k h = absurd (omega arith)
@@ -30,10 +30,10 @@ behind_mapped f (x ∷ xs) ys (suc k) h =
 
 -- of a declaration and those behind it
 pub outer_inputs-cons : (t : RawTop) (ts : List RawTop) (n at : ℕ) → outer_inputs (t ∷ []) ≡ replicate n at ++ [] → outer_inputs (t ∷ ts) ≡ replicate n at ++ outer_inputs ts
-outer_inputs-cons t ts n at h = whole t ∙ ap (λ ns. ns ++ outer_inputs ts) (h ∙ append_nil (replicate n at))
+outer_inputs-cons t ts n at h = whole t ∙ ap (λ ns. ns ++ outer_inputs ts) (h ∙ append-nil (replicate n at))
   where
     whole : (u : RawTop) → outer_inputs (u ∷ ts) ≡ outer_inputs (u ∷ []) ++ outer_inputs ts
-    whole (top.Outer constant t x e) = ap (λ ns. ns ++ outer_inputs ts) (sym (append_nil (replicate (outer_count e) x.at)))
+    whole (top.Outer constant t x e) = ap (λ ns. ns ++ outer_inputs ts) (sym (append-nil (replicate (outer_count e) x.at)))
     whole (top.Global kept constant t x sh) = refl
     whole (top.Func g) = refl
 

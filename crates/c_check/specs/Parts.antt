@@ -1,5 +1,5 @@
 -- The program that a unit with its names replaced by numbers is, where no fault stands.
-use Rattle.c_tree.specs.Programs.{Program}
+use Rattle.c_tree.specs.Keeping.Programs.{Program}
 use Rattle.c_check.specs.declared.checking.Named.{Named}
 
 -- the program with these parts

@@ -1,12 +1,19 @@
 //! Checking a unit.
 
 ghost use Rattle.std.specs.Prelude.{◌≡◌, IfOk, IfErr, IfSome, None, unwrap_or};
-ghost use Rattle.c_tree.specs.Checked.{IsSpelled};
-ghost use Rattle.c_tree.specs.Naming.{program_of, entry_number};
-ghost use Rattle.c_tree.specs.Uses.{uses};
-ghost use Rattle.c_tree.specs.Refusals.{Typed, IsRefused, faults, wide, no_entries, too_many_inputs};
+ghost use Rattle.c_tree.specs.Checking.Checked.{IsSpelled};
+ghost use Rattle.c_tree.specs.Checking.Naming.{program_of, entry_number};
+ghost use Rattle.c_tree.specs.Checking.Uses.{uses};
+ghost use Rattle.c_tree.specs.Checking.Refusals.{
+  Typed,
+  IsRefused,
+  faults,
+  wide_func_faults,
+  no_entry_faults,
+  input_faults,
+};
 ghost use Rattle.c_faults.specs.Verdicts.{after_all, after_uses};
-ghost use Rattle.c_check.specs.Answers.{told};
+ghost use Rattle.c_check.specs.Answers.{fault_and_place};
 ghost use Rattle.c_check.specs.Parts.{with_parts};
 
 use crate::entry;
@@ -40,7 +47,7 @@ pub(crate) struct Named {
 pub fn check(alloc: Global, unit: Unit, entry: &str) -> Result<Program, CheckFault>
     requires spelled { IsSpelled unit }
     ensures program { IfOk result (Typed unit entry.now) }
-    ensures refused { IfErr result (λ e. IfSome (told e) (IsRefused unit entry.now)) }
+    ensures refused { IfErr result (λ e. IfSome (fault_and_place e) (IsRefused unit entry.now)) }
 {
     let Named {
         globals,
@@ -57,7 +64,7 @@ pub fn check(alloc: Global, unit: Unit, entry: &str) -> Result<Program, CheckFau
 // The parts of the program of any unit, where no fault stands; else the first fault.
 fn faultless(alloc: Global, unit: &Unit, entry: &str) -> Result<Named, CheckFault>
     ensures named { IfOk result (λ n. Typed unit.now entry.now (with_parts n)) }
-    ensures refused { IfErr result (λ e. IfSome (told e) (IsRefused unit.now entry.now)) }
+    ensures refused { IfErr result (λ e. IfSome (fault_and_place e) (IsRefused unit.now entry.now)) }
 {
     let (named, verdict) = judged(alloc, unit, entry.as_bytes())?;
     match verdict.first() {
@@ -114,7 +121,7 @@ fn first_entry(funcs: &[Func], name: &[u8]) -> Result<u32, NoMemory>
 
 // No function has the entry's name.
 fn ask_of_entry(unit: &Unit, entry: &[u8], verdict: &mut Verdict)
-    ensures { verdict.new ≡ after_all verdict.old (no_entries unit.now entry.now) }
+    ensures { verdict.new ≡ after_all verdict.old (no_entry_faults unit.now entry.now) }
 {
     let is_missing = entry::func_named(unit.tops.as_slice(), entry).is_none();
     verdict.refuse_if(is_missing, Fault::NoEntry, unit.end);
@@ -122,7 +129,7 @@ fn ask_of_entry(unit: &Unit, entry: &[u8], verdict: &mut Verdict)
 
 // A 65th input number.
 fn ask_of_inputs(unit: &Unit, entry: &[u8], verdict: &mut Verdict)
-    ensures { verdict.new ≡ after_all verdict.old (too_many_inputs unit.now entry.now) }
+    ensures { verdict.new ≡ after_all verdict.old (input_faults unit.now entry.now) }
 {
     let tops = unit.tops.as_slice();
     let extra = match entry::func_named(tops, entry) {
@@ -136,7 +143,7 @@ fn ask_of_inputs(unit: &Unit, entry: &[u8], verdict: &mut Verdict)
 
 // A function whose span is above 2^64.
 fn ask_of_spans(spans: &[u128], tops: &[RawTop], verdict: &mut Verdict)
-    ensures { verdict.new ≡ after_all verdict.old (wide spans.now tops.now) }
+    ensures { verdict.new ≡ after_all verdict.old (wide_func_faults spans.now tops.now) }
 {
     let mut number = 0;
     for top in tops {

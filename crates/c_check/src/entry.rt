@@ -2,8 +2,8 @@
 
 ghost use Rattle.std.specs.Prelude.{◌≡◌, ◌++◌, ◌∷◌, [], map, replicate, slice_get};
 ghost use Rattle.std.specs.Option.{option_copied};
-ghost use Rattle.c_tree.specs.Naming.{entry_number};
-ghost use Rattle.c_tree.specs.Refusals.{func_named, param_inputs, outer_count, outer_inputs};
+ghost use Rattle.c_tree.specs.Checking.Naming.{entry_number};
+ghost use Rattle.c_tree.specs.Checking.Refusals.{func_named, param_inputs, outer_count, outer_inputs};
 
 use c_tree::{Func, RawExpr, RawFunc, RawParam, RawTop};
 

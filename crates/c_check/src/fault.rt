@@ -1,6 +1,6 @@
 //! Why a unit is no program.
 
-use c_faults::{Fault, Refusal};
+use c_faults::{CheckRefusal, Fault};
 use c_tree::NoMemory;
 
 /// Why a unit is no program. A place is the offset of a byte in the text, or the text's length. Of several faults the
@@ -58,14 +58,14 @@ impl From<NoMemory> for CheckFault {
     }
 }
 
-impl From<Refusal> for CheckFault {
+impl From<CheckRefusal> for CheckFault {
     ghost use Rattle.std.specs.Prelude.{◌≡◌, Some};
     ghost use Rattle.c_faults.specs.Verdicts.{refusal_of};
-    ghost use Rattle.c_check.specs.Answers.{told};
+    ghost use Rattle.c_check.specs.Answers.{fault_and_place};
 
     ghost from_gives = { λ r e. told e ≡ Some (refusal_of r) };
 
-    fn from(refusal: Refusal) -> CheckFault {
+    fn from(refusal: CheckRefusal) -> CheckFault {
         let at = refusal.at;
         match refusal.fault {
             Fault::NoName => CheckFault::NoName { at },

@@ -10,8 +10,8 @@ use Rattle.c_tree.specs.declared.unit.RawExpr.{RawExpr}
 use Rattle.c_tree.specs.declared.unit.RawExpr.TheVariants.{Num, Name, Elem, Un, Cast, Bin, Cond, Paren}
 use Rattle.c_tree.specs.declared.unit.RawExpr.TheBlock.{shape-the_row-RawExpr-0, hidden-the_row-RawExpr-0}
 use denote.Hole.Carrier.{hidden}
-use Rattle.c_tree.specs.Scopes.{Known, entity_of, variable}
-use Rattle.c_tree.specs.Constants.{expr_of, row_expr, first_token, row_first_token, has_name, row_has_name}
+use Rattle.c_tree.specs.Checking.Scopes.{Known, entity_of, variable}
+use Rattle.c_tree.specs.Checking.Constants.{expr_of, row_expr, first_token, row_first_token, has_name, row_has_name}
 
 pub expr_of-Num : (ks : List Known) (at : ℕ) (t : Ty) (n : ℕ) → expr_of ks (Num at t n) ≡ expr.Num t n
 unfolding expr_of

@@ -1,10 +1,10 @@
 //! Constant expressions (C11 6.6) and the lengths of arrays.
 
 ghost use Rattle.std.specs.Prelude.{◌≡◌, IfOk, Some, None, []};
-ghost use Rattle.c_tree.specs.Constants as spec;
-ghost use Rattle.c_tree.specs.Expressions.{val, type_of, chosen};
+ghost use Rattle.c_tree.specs.Checking.Constants as spec;
+ghost use Rattle.c_tree.specs.Meaning.Expressions.{val, type_of, choice_value};
 
-use c_semantics::{bin_ty, common, convert, is_true, of_word, operated, un_ty, unary};
+use c_semantics::{bin_ty, common, convert, is_nonzero, of_word, operated, un_ty, unary};
 use c_tree::{NoMemory, RawExpr, RawShape, Ty, Value};
 use sqlite_items::Items;
 
@@ -42,7 +42,7 @@ fn has_name(e: &RawExpr) -> bool
 }
 
 // The type of an expression without names; a name counts as an `int`.
-#[tactic(auto, using(crate::proofs::ConstantLayers::constant_layers, c_tree::proofs::ValLayers::val_layers))]
+#[tactic(auto, using(crate::proofs::ConstantLayers::constant_layers, c_tree::proofs::Layers::ValLayers::val_layers))]
 fn type_of(e: &RawExpr) -> Ty
     ensures { result ≡ type_of (spec.expr_of [] e.now) spec.no_store }
 {
@@ -59,14 +59,14 @@ fn type_of(e: &RawExpr) -> Ty
 }
 
 fn chosen(c: Option<Value>, ty: Ty, a: Option<Value>, b: Option<Value>) -> Option<Value>
-    ensures { result ≡ chosen c ty a b }
+    ensures { result ≡ choice_value c ty a b }
 {
-    let v = if is_true(c?) { a? } else { b? };
+    let v = if is_nonzero(c?) { a? } else { b? };
     Some(convert(ty, v))
 }
 
 // The value of an expression without names; a name has none.
-#[tactic(auto, using(crate::proofs::ConstantLayers::constant_layers, c_tree::proofs::ValLayers::val_layers))]
+#[tactic(auto, using(crate::proofs::ConstantLayers::constant_layers, c_tree::proofs::Layers::ValLayers::val_layers))]
 fn value_of(e: &RawExpr) -> Option<Value>
     ensures { result ≡ val (spec.expr_of [] e.now) spec.no_store }
 {
@@ -86,9 +86,9 @@ fn value_of(e: &RawExpr) -> Option<Value>
 }
 
 /// The value of a constant expression: none where a name stands in it or it is undefined.
-#[tactic(auto, unfolding(c_tree::specs::Constants::constant))]
+#[tactic(auto, unfolding(c_tree::specs::Checking::Constants::constant_value))]
 pub fn constant(e: &RawExpr) -> Option<Value>
-    ensures { result ≡ spec.constant e.now }
+    ensures { result ≡ spec.constant_value e.now }
 {
     if has_name(e) { None } else { value_of(e) }
 }
@@ -118,7 +118,7 @@ fn length_number(constant: Option<Value>) -> u32
 
 /// The length of an array that is written; 0 for what is none.
 pub fn written_length(e: &RawExpr) -> u32
-    ensures { result ≡ spec.array_length (Some e.now) None }
+    ensures { result ≡ spec.declared_length (Some e.now) None }
 {
     length_number(constant(e))
 }
@@ -128,7 +128,7 @@ pub fn array_length(
     length: &Option<RawExpr>,
     list: &Option<Items<RawExpr>>,
 ) -> Result<u32, NoMemory>
-    ensures { IfOk result (λ n. n ≡ spec.array_length length.now list.now) }
+    ensures { IfOk result (λ n. n ≡ spec.declared_length length.now list.now) }
 {
     match length {
         Some(e) => Ok(written_length(e)),

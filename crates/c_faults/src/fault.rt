@@ -1,8 +1,8 @@
 //! Faults and refusals.
 
 ghost use Rattle.std.specs.Prelude.{◌≡◌};
-ghost use Rattle.c_tree.specs.Refusals.{number};
-ghost use Rattle.c_faults.specs.Verdicts.{fault_of, refusal_of, precedes};
+ghost use Rattle.c_tree.specs.Checking.Refusals.{fault_number};
+ghost use Rattle.c_faults.specs.Verdicts.{fault_kind, refusal_of, precedes};
 
 /// What is wrong, without its place, in the order in which faults are told.
 #[derive(Clone, Copy)]
@@ -27,7 +27,7 @@ pub enum Fault {
 impl Fault {
     // Its number in the order in which faults are told.
     fn number(self) -> u8
-        ensures { result ≡ number (fault_of self) }
+        ensures { result ≡ fault_number (fault_kind self) }
     {
         match self {
             Fault::NoName => 1,
@@ -51,14 +51,14 @@ impl Fault {
 
 /// A fault and its place.
 #[derive(Clone, Copy)]
-pub struct Refusal {
+pub struct CheckRefusal {
     pub fault: Fault,
     pub at: u32,
 }
 
-impl Refusal {
+impl CheckRefusal {
     /// Whether this one is told before another.
-    pub(crate) fn precedes(self, other: Refusal) -> bool
+    pub(crate) fn precedes(self, other: CheckRefusal) -> bool
         ensures { result ≡ precedes (refusal_of self) (refusal_of other) }
     {
         let first = self.fault.number();

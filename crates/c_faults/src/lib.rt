@@ -4,5 +4,5 @@
 mod fault;
 mod verdict;
 
-pub use fault::{Fault, Refusal};
+pub use fault::{CheckRefusal, Fault};
 pub use verdict::{MAX_BOUND, Verdict};

@@ -1,12 +1,12 @@
 //! What is wrong with a unit, as far as it has been looked at.
 
 ghost use Rattle.std.specs.Prelude.{◌≡◌, None, Some, option_map};
-ghost use Rattle.c_tree.specs.Uses as uses;
-ghost use Rattle.c_tree.specs.Refusals.{where_true, refusal, is_misread, is_constant};
-ghost use Rattle.c_names.specs.Tables.{entity_of};
-ghost use Rattle.c_faults.specs.Verdicts.{fault_of, after_one, after_all, after_use, refusal_of};
+ghost use Rattle.c_tree.specs.Checking.Uses as uses;
+ghost use Rattle.c_tree.specs.Checking.Refusals.{where_true, placed_fault, is_misread, is_constant};
+ghost use Rattle.c_names.specs.Tables.{entity_view};
+ghost use Rattle.c_faults.specs.Verdicts.{fault_kind, after_one, after_all, after_use, refusal_of};
 
-use crate::fault::{Fault, Refusal};
+use crate::fault::{CheckRefusal, Fault};
 use c_names::Entity;
 use c_tree::{RawBound, Value};
 use std::marker::Model;
@@ -19,15 +19,15 @@ const MAX_LENGTH: u32 = 64;
 /// Of the refusals so far the one that is told: the first by its fault's number, and then by its place.
 #[derive(Drop)]
 pub struct Verdict {
-    first: Option<Refusal>,
+    first: Option<CheckRefusal>,
 }
 
 impl Model for Verdict {
     ghost use Rattle.std.specs.Prelude.{Option, option_map};
-    ghost use Rattle.c_tree.specs.Refusals as spec;
+    ghost use Rattle.c_tree.specs.Checking.Refusals as spec;
     ghost use Rattle.c_faults.specs.Verdicts.{refusal_of};
 
-    ghost Value = { Option spec.Refusal };
+    ghost Value = { Option spec.PlacedFault };
 
     ghost view = { λ v. option_map refusal_of v.first };
 }
@@ -41,7 +41,7 @@ impl Verdict {
     }
 
     /// The refusal that is told, if anything is wrong.
-    pub fn first(&self) -> Option<Refusal>
+    pub fn first(&self) -> Option<CheckRefusal>
         ensures { option_map refusal_of result ≡ self.now }
     {
         self.first
@@ -49,9 +49,9 @@ impl Verdict {
 
     /// Hears of a fault.
     pub fn refuse(&mut self, fault: Fault, at: u32)
-        ensures { self.new ≡ after_one self.old (refusal (fault_of fault) at) }
+        ensures { self.new ≡ after_one self.old (placed_fault (fault_kind fault) at) }
     {
-        let refusal = Refusal { fault, at };
+        let refusal = CheckRefusal { fault, at };
         match self.first {
             None => self.first = Some(refusal),
             Some(first) => {
@@ -64,7 +64,7 @@ impl Verdict {
 
     /// Hears of a fault where there is one.
     pub fn refuse_if(&mut self, is_wrong: bool, fault: Fault, at: u32)
-        ensures { self.new ≡ after_all self.old (where_true is_wrong (fault_of fault) at) }
+        ensures { self.new ≡ after_all self.old (where_true is_wrong (fault_kind fault) at) }
     {
         if is_wrong {
             self.refuse(fault, at);
@@ -74,7 +74,7 @@ impl Verdict {
     /// A name that is read, and whether an index follows it.
     #[tactic(auto, unfolding(crate::specs::Verdicts::after_use))]
     pub fn read(&mut self, at: u32, entity: Option<Entity>, indexed: bool)
-        ensures { self.new ≡ after_use self.old (uses.Read at (option_map entity_of entity) indexed) }
+        ensures { self.new ≡ after_use self.old (uses.Read at (option_map entity_view entity) indexed) }
     {
         match entity {
             None => self.refuse(Fault::NoName, at),
@@ -85,7 +85,7 @@ impl Verdict {
     /// A name that is assigned to, and whether an index follows it.
     #[tactic(auto, unfolding(crate::specs::Verdicts::after_use))]
     pub fn assigned(&mut self, at: u32, entity: Option<Entity>, indexed: bool)
-        ensures { self.new ≡ after_use self.old (uses.Assigned at (option_map entity_of entity) indexed) }
+        ensures { self.new ≡ after_use self.old (uses.Assigned at (option_map entity_view entity) indexed) }
     {
         match entity {
             None => self.refuse(Fault::NoName, at),
@@ -106,7 +106,8 @@ impl Verdict {
         is_used: bool,
         caller: u32,
     )
-        ensures { self.new ≡ after_use self.old (uses.Called at (option_map entity_of entity) arguments is_used caller) }
+        ensures { self.new ≡ after_use self.old (uses.Called at (option_map entity_view entity) arguments is_used
+            caller) }
     {
         match entity {
             None => self.refuse(Fault::NoName, at),
@@ -189,7 +190,7 @@ impl Verdict {
 
 // An array without index, an index on a scalar, or a function that is not called.
 fn is_misread(indexed: bool, entity: Entity) -> bool
-    ensures { result ≡ is_misread indexed (Some (entity_of entity)) }
+    ensures { result ≡ is_misread indexed (Some (entity_view entity)) }
 {
     match entity {
         Entity::Variable { array, .. } => { if array { !indexed } else { indexed } }
@@ -198,7 +199,7 @@ fn is_misread(indexed: bool, entity: Entity) -> bool
 }
 
 fn is_constant(entity: Entity) -> bool
-    ensures { result ≡ is_constant (Some (entity_of entity)) }
+    ensures { result ≡ is_constant (Some (entity_view entity)) }
 {
     match entity {
         Entity::Variable { constant, .. } => constant,

@@ -8,11 +8,11 @@ use Rattle.c_tree.specs.declared.program.Local.{Local}
 use Rattle.c_tree.specs.declared.program.Func.{Func}
 use Rattle.c_tree.specs.declared.program.Program.{Program}
 use Rattle.c_tree.specs.declared.program.Input.{Input}
-use Rattle.c_tree.specs.Values.{is_of}
-use Rattle.c_tree.specs.Runs.{fits, are_of, types_of, param_types, outer_types, entry_types, input_types}
+use Rattle.c_tree.specs.Meaning.Values.{is_of}
+use Rattle.c_tree.specs.Meaning.Runs.{fits, are_of, types_of, param_types, outer_types, entry_types, input_types}
 use Rattle.c_input.specs.InputTexts.{own_leads, param_leads, entry_leads, outer_leads, input_leads}
 use Rattle.c_input.specs.Reading.{IsLead, IsSmall, Suits}
-use Rattle.c_input.proofs.InputParts.{both}
+use Rattle.plain_laws.proofs.Booleans.{both_hold}
 
 -- ---- a lead for each type
 
@@ -74,7 +74,7 @@ suits [] (t ∷ ts) zs h k = absurd h
 suits (l ∷ ls) [] zs h k = absurd h
 suits (l ∷ ls) (t ∷ ts) [] h k = absurd cc
 suits (l ∷ ls) (t ∷ ts) (z ∷ zs) h k =
-    let ks = both (is_of t z) (are_of ts zs) k in
+    let ks = both_hold (is_of t z) (are_of ts zs) k in
     (h.0, (small_of t z ks.0, suits ls ts zs h.1 ks.1))
 
 pub fitting_suits : (p : Program) (i : Input) → IsTrue (fits p i) → Suits (input_leads p) i.values

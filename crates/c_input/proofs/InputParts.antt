@@ -6,35 +6,32 @@ use Rattle.c_tree.specs.declared.program.Global.{Global}
 use Rattle.c_tree.specs.declared.program.Local.{Local}
 use Rattle.c_tree.specs.declared.value.Value.{Value}
 use Rattle.c_tree.specs.declared.value.Slot.{Slot}
-use Rattle.c_tree.specs.Values.{is_of, of_int}
-use Rattle.c_tree.specs.Runs.{are_of, types_of, outer_types, param_types, arguments, global_slot, global_slots}
-use Rattle.c_tree.specs.WellFormed.{AreNumbersOf}
-use Rattle.c_input.specs.Starts.{NumberAt, width, Takes, own_width, own_slot, rest_of, own_types}
-
-pub both : (a b : Bool) → IsTrue (a && b) → IsTrue a × IsTrue b
-both true true h = (refl, refl)
-both true false h = absurd cc
-both false b h = absurd cc
+use Rattle.c_tree.specs.Meaning.Values.{is_of, of_int}
+use Rattle.c_tree.specs.Meaning.Runs.{are_of, types_of, outer_types, param_types, arguments, global_slot, global_slots}
+use Rattle.c_tree.specs.Keeping.WellFormed.{AreNumbersOf}
+use Rattle.c_input.specs.Starts.{NumberAt, input_width, Takes, own_width, own_slot, rest_of, own_types}
+use Rattle.plain_laws.proofs.Booleans.{both_hold}
+use Rattle.std.proofs.lemmas.Option.{same_Some}
 
 -- of the types that come first
 pub number_at : (ts us : List Ty) (zs : List ℤ) (k : ℕ) → IsTrue (are_of (ts ++ us) zs) → NumberAt (slice_get ts k) (slice_get zs k)
 number_at [] us zs k h = tt
 number_at (t ∷ ts) us [] k h = absurd cc
-number_at (t ∷ ts) us (z ∷ zs) zero h = (both (is_of t z) (are_of (ts ++ us) zs) h).0
-number_at (t ∷ ts) us (z ∷ zs) (suc k) h = number_at ts us zs k (both (is_of t z) (are_of (ts ++ us) zs) h).1
+number_at (t ∷ ts) us (z ∷ zs) zero h = (both_hold (is_of t z) (are_of (ts ++ us) zs) h).0
+number_at (t ∷ ts) us (z ∷ zs) (suc k) h = number_at ts us zs k (both_hold (is_of t z) (are_of (ts ++ us) zs) h).1
 
 pub rest_fits : (ts us : List Ty) (zs : List ℤ) → IsTrue (are_of (ts ++ us) zs) → (length ts ≤ length zs) × IsTrue (are_of us (drop (length ts) zs))
 rest_fits [] us zs h = (omega arith, h)
 rest_fits (t ∷ ts) us [] h = absurd cc
 rest_fits (t ∷ ts) us (z ∷ zs) h =
-    let more = rest_fits ts us zs (both (is_of t z) (are_of (ts ++ us) zs) h).1 in
+    let more = rest_fits ts us zs (both_hold (is_of t z) (are_of (ts ++ us) zs) h).1 in
     (omega (arith, more.0), more.1)
 
 takes_numbers : (n : ℕ) (t : Ty) (us : List Ty) (zs : List ℤ) → IsTrue (are_of (replicate n t ++ us) zs) → (n ≤ length zs) × (AreNumbersOf t (take n zs) × IsTrue (are_of us (drop n zs)))
 takes_numbers zero t us zs h = (omega arith, (tt, h))
 takes_numbers (suc n) t us [] h = absurd cc
 takes_numbers (suc n) t us (z ∷ zs) h =
-    let hs = both (is_of t z) (are_of (replicate n t ++ us) zs) h in
+    let hs = both_hold (is_of t z) (are_of (replicate n t ++ us) zs) h in
     let more = takes_numbers n t us zs hs.1 in
     (omega (arith, more.0), ((hs.0, more.1.0), more.1.1))
 
@@ -59,7 +56,7 @@ pub first_takes : (g : Global) (gs : List Global) (zs : List ℤ) → IsTrue (ar
 first_takes g gs zs h outer =
     let us = outer_types gs in
     let all = ap (λ b. if b then types_of g.ty g.length ++ us else us) outer ∙ of_width g.ty g.length us in
-    let parts = takes_numbers (width g) g.ty us zs (subst (λ ts. IsTrue (are_of ts zs)) all h) in
+    let parts = takes_numbers (input_width g) g.ty us zs (subst (λ ts. IsTrue (are_of ts zs)) all h) in
     record { enough = parts.0; numbers = parts.1.0 }
 
 pub rest_takes : (g : Global) (gs : List Global) (zs : List ℤ) → IsTrue (are_of (outer_types (g ∷ gs)) zs) → IsTrue (are_of (outer_types gs) (drop (own_width g) zs))
@@ -68,26 +65,23 @@ rest_takes g gs zs h = by_outer g.outer h
     us : List Ty
     us = outer_types gs
 
-    by_outer : (b : Bool) → IsTrue (are_of (if b then types_of g.ty g.length ++ us else us) zs) → IsTrue (are_of us (drop (if b then width g else 0) zs))
-    by_outer true h = (takes_numbers (width g) g.ty us zs (subst (λ ts. IsTrue (are_of ts zs)) (of_width g.ty g.length us) h)).1.1
+    by_outer : (b : Bool) → IsTrue (are_of (if b then types_of g.ty g.length ++ us else us) zs) → IsTrue (are_of us (drop (if b then input_width g else 0) zs))
+    by_outer true h = (takes_numbers (input_width g) g.ty us zs (subst (λ ts. IsTrue (are_of ts zs)) (of_width g.ty g.length us) h)).1.1
     by_outer false h = h
 
 pub first_slot : (g : Global) (gs : List Global) (zs : List ℤ) → global_slots (g ∷ gs) zs ≡ own_slot g zs ∷ global_slots gs (drop (own_width g) zs)
 first_slot g gs zs =
     ap (λ w. if g.outer then global_slot g.ty g.length (take w zs) ∷ global_slots gs (drop w zs) else global_slot g.ty g.length g.values ∷ global_slots gs zs) (width_is g.ty g.length) ∙ by_outer g.outer
   where
-    by_outer : (b : Bool) → (if b then global_slot g.ty g.length (take (width g) zs) ∷ global_slots gs (drop (width g) zs) else global_slot g.ty g.length g.values ∷ global_slots gs zs) ≡ global_slot g.ty g.length (if b then take (width g) zs else g.values) ∷ global_slots gs (drop (if b then width g else 0) zs)
+    by_outer : (b : Bool) → (if b then global_slot g.ty g.length (take (input_width g) zs) ∷ global_slots gs (drop (input_width g) zs) else global_slot g.ty g.length g.values ∷ global_slots gs zs) ≡ global_slot g.ty g.length (if b then take (input_width g) zs else g.values) ∷ global_slots gs (drop (if b then input_width g else 0) zs)
     by_outer true = refl
     by_outer false = refl
 
 -- ---- lists
 
-some_is : {X : Type 0} → (a b : X) → ◌≡◌ {A = Option X} (Some a) (Some b) → a ≡ b
-some_is a b e = cc
-
 drop_suc : {X : Type 0} → (xs : List X) (i : ℕ) (x : X) → slice_get xs i ≡ Some x → drop i xs ≡ x ∷ drop (suc i) xs
 drop_suc [] i x e = absurd cc
-drop_suc (y ∷ ys) zero x e = ap (λ y. y ∷ ys) (some_is y x e)
+drop_suc (y ∷ ys) zero x e = ap (λ y. y ∷ ys) (same_Some y x e)
 drop_suc (y ∷ ys) (suc i) x e = drop_suc ys i x e
 
 pub drop_is : {X : Type 0} → (xs : List X) (i : ℕ) (x : X) → slice_get xs i ≡ Some x → drop i xs ≡ x ∷ drop (i + 1) xs
@@ -149,7 +143,7 @@ are_of_append (t ∷ ts) us (z ∷ zs) =
     first_of (is_of t z) (are_of (ts ++ us) zs) (from_rest us (rest_of ts zs)) (are_of_append ts us zs) ∙ from_if (is_of t z) us (rest_of ts zs)
 
 some_next : (b : Bool) (ts : List Ty) (zs more : List ℤ) → Some more ≡ (if b then Some zs else None) → (if b then rest_of ts zs else None) ≡ rest_of ts more
-some_next true ts zs more e = ap (rest_of ts) (sym (some_is more zs e))
+some_next true ts zs more e = ap (rest_of ts) (sym (same_Some more zs e))
 some_next false ts zs more e = absurd cc
 
 pub next_some : (t : Ty) (ts : List Ty) (zs more : List ℤ) → Some more ≡ rest_of (t ∷ []) zs → rest_of (t ∷ ts) zs ≡ rest_of ts more

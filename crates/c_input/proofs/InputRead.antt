@@ -2,8 +2,8 @@
 use Rattle.std.proofs.Common.{◌≡◌, ℕ, List, drop, Option, Some, None, Result, Ok, Err, IfOk, MatchOption, IsTrue, ℤ, sym, ap, ◌∙◌, subst}
 use Rattle.c_tree.specs.declared.program.Program.{Program}
 use Rattle.c_tree.specs.declared.program.Input.{Input}
-use Rattle.c_tree.specs.Runs.{fits}
-use Rattle.c_input.specs.InputTexts.{input_leads, led, input_text, HasText, IsInputOf}
+use Rattle.c_tree.specs.Meaning.Runs.{fits}
+use Rattle.c_input.specs.InputTexts.{input_leads, led_numbers, input_text, HasText, IsInputOf}
 use Rattle.c_input.specs.Reading.{Suits}
 use Rattle.c_input.proofs.InputLeads.{fitting_suits}
 use Rattle.c_input.proofs.InputSteps.{none_some, some_same, same_numbers}
@@ -12,9 +12,9 @@ use Rattle.c_input.proofs.InputSteps.{none_some, some_same, same_numbers}
 abbrev pub Finds : Program → List ℕ → Option (List ℤ) → Type 0
 Finds p text found = (i : Input) → IsTrue (fits p i) → input_text p i ≡ text → found ≡ Some i.values
 
-pub finds : (p : Program) (leads : List (List ℕ)) (bytes text : List ℕ) (found : Option (List ℤ)) → leads ≡ input_leads p → bytes ≡ text → ((zs : List ℤ) → Suits leads zs → bytes ≡ drop 1 (led leads zs) → found ≡ Some zs) → Finds p text found
+pub finds : (p : Program) (leads : List (List ℕ)) (bytes text : List ℕ) (found : Option (List ℤ)) → leads ≡ input_leads p → bytes ≡ text → ((zs : List ℤ) → Suits leads zs → bytes ≡ drop 1 (led_numbers leads zs) → found ≡ Some zs) → Finds p text found
 finds p leads bytes text found is same told i fit e =
-    told i.values (subst (λ ls. Suits ls i.values) (sym is) (fitting_suits p i fit)) (same ∙ sym e ∙ ap (λ ls. drop 1 (led ls i.values)) (sym is))
+    told i.values (subst (λ ls. Suits ls i.values) (sym is) (fitting_suits p i fit)) (same ∙ sym e ∙ ap (λ ls. drop 1 (led_numbers ls i.values)) (sym is))
 
 pub nothing_read : (p : Program) (text : List ℕ) (found : Option (List ℤ)) → Finds p text found → found ≡ None → (i : Input) → IsTrue (fits p i) → input_text p i ≡ text → ⊥
 nothing_read p text found told none i fit e = none_some found i.values none (told i fit e)

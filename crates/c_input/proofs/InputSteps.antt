@@ -11,10 +11,11 @@ use Rattle.std.proofs.lemmas.Int.{to_z-of_z}
 use Rattle.std.specs.Str.{IsUtf8}
 use Rattle.c_tree.specs.declared.program.Local.{Local}
 use Rattle.c_tree.specs.declared.program.Global.{Global}
-use Rattle.c_input.specs.InputTexts.{own_leads, param_leads, outer_leads, led}
-use Rattle.c_input.specs.Reading.{goes_on, global_leads, IsSmall, IsApart, Suits, Remains}
+use Rattle.c_input.specs.InputTexts.{own_leads, param_leads, outer_leads, led_numbers}
+use Rattle.c_input.specs.Reading.{is_entry_byte, global_leads, IsSmall, IsApart, Suits, Remains}
 use Rattle.c_input.proofs.InputParts.{drop_is}
 use Rattle.c_input.proofs.NumberTexts.{number_ends, led_apart}
+use Rattle.std.proofs.lemmas.Option.{same_Some}
 
 -- ---- what stands before the numbers
 
@@ -37,14 +38,14 @@ no_params (suc k) = refl
 
 -- ---- writing
 
-pub no_numbers : (ls : List (List ℕ)) → led ls [] ≡ []
+pub no_numbers : (ls : List (List ℕ)) → led_numbers ls [] ≡ []
 no_numbers [] = refl
 no_numbers (l ∷ ls) = refl
 
-pub write_step : (ls : List (List ℕ)) (zs : List ℤ) (i : ℕ) (l : List ℕ) (z : ℤ) (text more whole : List ℕ) → slice_get ls i ≡ Some l → slice_get zs i ≡ Some z → more ≡ text ++ (l ++ signed_decimal z) → text ++ led (drop i ls) (drop i zs) ≡ whole → more ++ led (drop (i + 1) ls) (drop (i + 1) zs) ≡ whole
+pub write_step : (ls : List (List ℕ)) (zs : List ℤ) (i : ℕ) (l : List ℕ) (z : ℤ) (text more whole : List ℕ) → slice_get ls i ≡ Some l → slice_get zs i ≡ Some z → more ≡ text ++ (l ++ signed_decimal z) → text ++ led_numbers (drop i ls) (drop i zs) ≡ whole → more ++ led_numbers (drop (i + 1) ls) (drop (i + 1) zs) ≡ whole
 write_step ls zs i l z text more whole at_ls at_zs pushed so_far =
-    let rest = led (drop (i + 1) ls) (drop (i + 1) zs) in
-    ap (λ more. more ++ rest) pushed ∙ append_assoc text (l ++ signed_decimal z) rest ∙ ap (λ ls'. text ++ led ls' (z ∷ drop (i + 1) zs)) (sym (drop_is ls i l at_ls)) ∙ ap (λ zs'. text ++ led (drop i ls) zs') (sym (drop_is zs i z at_zs)) ∙ so_far
+    let rest = led_numbers (drop (i + 1) ls) (drop (i + 1) zs) in
+    ap (λ more. more ++ rest) pushed ∙ append_assoc text (l ++ signed_decimal z) rest ∙ ap (λ ls'. text ++ led_numbers ls' (z ∷ drop (i + 1) zs)) (sym (drop_is ls i l at_ls)) ∙ ap (λ zs'. text ++ led_numbers (drop i ls) zs') (sym (drop_is zs i z at_zs)) ∙ so_far
 
 -- ---- reading one number
 
@@ -61,11 +62,8 @@ pub text_is_read : {E : Type 0} {bytes : List ℕ} (Q : E → Type 0) (r : Resul
 text_is_read Q (Ok s) utf8 none h = absurd cc
 text_is_read Q (Err e) utf8 none h = h.0 utf8
 
-some_inside : {X : Type 0} → (x y : X) → ◌≡◌ {A = Option X} (Some x) (Some y) → x ≡ y
-some_inside x y e = cc
-
 pub text_is : {E : Type 0} {bytes : List ℕ} (Q : E → Type 0) (r : Result (Bor (List ℕ)) E) (s : Bor (List ℕ)) → result_ok r ≡ Some s → MatchResult r (λ s. (s.now ≡ bytes) × IsUtf8 bytes) (λ e. ¬ (IsUtf8 bytes) × Q e) → s.now ≡ bytes
-text_is Q (Ok t) s is h = ap (λ s. s.now) (sym (some_inside t s is)) ∙ h.0
+text_is Q (Ok t) s is h = ap (λ s. s.now) (sym (same_Some t s is)) ∙ h.0
 text_is Q (Err e) s is h = absurd cc
 
 -- a small number is kept as an `i64`
@@ -77,7 +75,7 @@ pub none_some : {X : Type 0} → (o : Option X) (x : X) → o ≡ None → o ≡
 none_some o x none some = let e = sym none ∙ some in absurd cc
 
 pub some_same : {X : Type 0} → (o : Option X) (x y : X) → o ≡ Some x → o ≡ Some y → x ≡ y
-some_same o x y e f = some_inside x y (sym e ∙ f)
+some_same o x y e f = same_Some x y (sym e ∙ f)
 
 drop_front : {X : Type 0} → (xs ys : List X) → drop (length xs) (xs ++ ys) ≡ ys
 drop_front [] ys = refl
@@ -95,9 +93,9 @@ pub behind_label : (label number more text behind : List ℕ) (count : ℕ) → 
 behind_label label number more text behind count long is dropped =
     dropped ∙ ap (λ n. drop n text) (sym long) ∙ ap (drop (length label)) (is ∙ append_assoc label number more) ∙ drop_front label (number ++ more)
 
-pub number_found : (z : ℤ) (more behind : List ℕ) (end : ℕ) → IsSmall z → IsApart more → behind ≡ signed_decimal z ++ more → end ≡ prefix_len goes_on behind → (take end behind ≡ signed_decimal z) × (drop (end + 1) behind ≡ drop 1 more)
+pub number_found : (z : ℤ) (more behind : List ℕ) (end : ℕ) → IsSmall z → IsApart more → behind ≡ signed_decimal z ++ more → end ≡ prefix_len is_entry_byte behind → (take end behind ≡ signed_decimal z) × (drop (end + 1) behind ≡ drop 1 more)
 number_found z more behind end small apart is found =
-    let long : end ≡ length (signed_decimal z) = found ∙ ap (prefix_len goes_on) is ∙ number_ends z more small apart in (
+    let long : end ≡ length (signed_decimal z) = found ∙ ap (prefix_len is_entry_byte) is ∙ number_ends z more small apart in (
       ap (λ n. take n behind) long ∙ ap (take (length (signed_decimal z))) is ∙ take_front (signed_decimal z) more,
       ap (λ n. drop (n + 1) behind) long ∙ ap (drop (length (signed_decimal z) + 1)) is ∙ drop_past (signed_decimal z) more,
     )
@@ -116,18 +114,18 @@ record Next (ls : List (List ℕ)) (later : List ℤ) (P : ℤ → List ℕ → 
   pub first : later ≡ z ∷ zs
   pub small : IsSmall z
   pub suits : Suits ls zs
-  pub told : P z (led ls zs)
+  pub told : P z (led_numbers ls zs)
 
-read_next : (l : List ℕ) (ls : List (List ℕ)) (later : List ℤ) (rest : List ℕ) (P : ℤ → List ℕ → Type 0) → Suits (l ∷ ls) later → rest ≡ drop 1 (led (l ∷ ls) later) → Tells (length l - 1) rest P → Next ls later P
+read_next : (l : List ℕ) (ls : List (List ℕ)) (later : List ℤ) (rest : List ℕ) (P : ℤ → List ℕ → Type 0) → Suits (l ∷ ls) later → rest ≡ drop 1 (led_numbers (l ∷ ls) later) → Tells (length l - 1) rest P → Next ls later P
 read_next l ls [] rest P suits text told = absurd suits
 read_next [] ls (z ∷ zs) rest P suits text told = absurd suits.0
 read_next (c ∷ label) ls (z ∷ zs) rest P suits text told =
-    record { z = z; zs = zs; first = refl; small = suits.1.0; suits = suits.1.1; told = told label (led ls zs) z (omega arith) suits.1.0 (led_apart ls zs suits.1.1) text }
+    record { z = z; zs = zs; first = refl; small = suits.1.0; suits = suits.1.1; told = told label (led_numbers ls zs) z (omega arith) suits.1.0 (led_apart ls zs suits.1.1) text }
 
 next_of : (ls : List (List ℕ)) (i : ℕ) (l : List ℕ) (values zs : List ℤ) (rest : List ℕ) (P : ℤ → List ℕ → Type 0) → slice_get ls i ≡ Some l → Tells (length l - 1) rest P → (r : Remains (drop i ls) values rest zs) → Next (drop (i + 1) ls) r.later P
 next_of ls i l values zs rest P here told r =
     let first = drop_is ls i l here in
-    read_next l (drop (i + 1) ls) r.later rest P (subst (λ ls. Suits ls r.later) first r.suits) (r.text ∙ ap (λ ls. drop 1 (led ls r.later)) first) told
+    read_next l (drop (i + 1) ls) r.later rest P (subst (λ ls. Suits ls r.later) first r.suits) (r.text ∙ ap (λ ls. drop 1 (led_numbers ls r.later)) first) told
 
 pub read_step : (ls : List (List ℕ)) (i : ℕ) (l : List ℕ) (values next zs : List ℤ) (rest more : List ℕ) (number : ℤ) → slice_get ls i ≡ Some l → Tells (length l - 1) rest (λ z behind. (number ≡ z) × (more ≡ drop 1 behind)) → next ≡ values ++ to_z w64 (of_z w64 number) ∷ [] → Remains (drop i ls) values rest zs → Remains (drop (i + 1) ls) next more zs
 read_step ls i l values next zs rest more number here told pushed r =
@@ -162,12 +160,12 @@ first_same : (label : List ℕ) (y z : ℤ) (more others : List ℕ) → IsSmall
 first_same label y z more others small_y small_z apart apart' e =
     let text = label ++ signed_decimal y ++ more in
     let behind = drop (length label) text in
-    let end = prefix_len goes_on behind in
+    let end = prefix_len is_entry_byte behind in
     let one = number_found y more behind end small_y apart (behind_label label (signed_decimal y) more text behind (length label) refl refl refl) refl in
     let two = number_found z others behind end small_z apart' (behind_label label (signed_decimal z) others text behind (length label) refl e refl) refl in
     (signed_same y z small_y small_z (sym one.0 ∙ two.0), sym one.1 ∙ two.1)
 
-pub same_numbers : (ls : List (List ℕ)) (ys zs : List ℤ) → Suits ls ys → Suits ls zs → drop 1 (led ls ys) ≡ drop 1 (led ls zs) → ys ≡ zs
+pub same_numbers : (ls : List (List ℕ)) (ys zs : List ℤ) → Suits ls ys → Suits ls zs → drop 1 (led_numbers ls ys) ≡ drop 1 (led_numbers ls zs) → ys ≡ zs
 same_numbers [] [] [] h k e = refl
 same_numbers [] (y ∷ ys) zs h k e = absurd h
 same_numbers [] [] (z ∷ zs) h k e = absurd k
@@ -175,5 +173,5 @@ same_numbers (l ∷ ls) [] zs h k e = absurd h
 same_numbers (l ∷ ls) (y ∷ ys) [] h k e = absurd k
 same_numbers ([] ∷ ls) (y ∷ ys) (z ∷ zs) h k e = absurd h.0
 same_numbers ((c ∷ label) ∷ ls) (y ∷ ys) (z ∷ zs) h k e =
-    let first = first_same label y z (led ls ys) (led ls zs) h.1.0 k.1.0 (led_apart ls ys h.1.1) (led_apart ls zs k.1.1) e in
+    let first = first_same label y z (led_numbers ls ys) (led_numbers ls zs) h.1.0 k.1.0 (led_apart ls ys h.1.1) (led_apart ls zs k.1.1) e in
     ap (λ y. y ∷ ys) first.0 ∙ ap (λ zs. z ∷ zs) (same_numbers ls ys zs h.1.1 k.1.1 first.1)

@@ -6,8 +6,8 @@ use Rattle.std.specs.List.{prefix_len}
 use Rattle.std.specs.Str.Parse.{AllDigits, digits_value}
 use Rattle.std.proofs.lemmas.Str.Parse.{IsNumeralModel, numerals_by_value, tells_digits, digit_from_value}
 use Rattle.std.proofs.lemmas.Fmt.{digits_decimal}
-use Rattle.c_input.specs.InputTexts.{led}
-use Rattle.c_input.specs.Reading.{goes_on, IsSmall, IsApart, Suits}
+use Rattle.c_input.specs.InputTexts.{led_numbers}
+use Rattle.c_input.specs.Reading.{is_entry_byte, IsSmall, IsApart, Suits}
 
 own : IsNumeralModel (AllDigits 10) (digits_value 10)
 own = numerals_by_value (AllDigits 10) tells_digits
@@ -15,9 +15,9 @@ own = numerals_by_value (AllDigits 10) tells_digits
 -- all of them go on
 abbrev AllGoOn : List ℕ → Type 0
 AllGoOn [] = Unit {0}
-AllGoOn (c ∷ cs) = (goes_on c ≡ true) × AllGoOn cs
+AllGoOn (c ∷ cs) = (is_entry_byte c ≡ true) × AllGoOn cs
 
-digit_goes_on : (c : ℕ) → digit_value c < 10 → goes_on c ≡ true
+digit_goes_on : (c : ℕ) → digit_value c < 10 → is_entry_byte c ≡ true
 digit_goes_on c small = let within = digit_from_value c small in grind arith
 
 digits_go_on : (cs : List ℕ) → AllDigits 10 cs → AllGoOn cs
@@ -28,24 +28,24 @@ number_goes_on : (z : ℤ) → IsSmall z → AllGoOn (signed_decimal z)
 number_goes_on (pos n) small = digits_go_on (decimal n) (digits_decimal own n (omega arith))
 number_goes_on (negsuc n) small = (refl, digits_go_on (decimal (suc n)) (digits_decimal own (suc n) (omega arith)))
 
-stops_at : (c : ℕ) → (c ≡ 32) ⊎ (c ≡ 44) → goes_on c ≡ false
-stops_at c (inl e) = ap goes_on e
-stops_at c (inr e) = ap goes_on e
+stops_at : (c : ℕ) → (c ≡ 32) ⊎ (c ≡ 44) → is_entry_byte c ≡ false
+stops_at c (inl e) = ap is_entry_byte e
+stops_at c (inr e) = ap is_entry_byte e
 
-apart_stops : (more : List ℕ) → IsApart more → prefix_len goes_on more ≡ 0
+apart_stops : (more : List ℕ) → IsApart more → prefix_len is_entry_byte more ≡ 0
 apart_stops [] h = refl
-apart_stops (c ∷ cs) h = ap (λ b. cond b (1 + prefix_len goes_on cs) 0) (stops_at c h)
+apart_stops (c ∷ cs) h = ap (λ b. cond b (1 + prefix_len is_entry_byte cs) 0) (stops_at c h)
 
-ends : (cs more : List ℕ) → AllGoOn cs → IsApart more → prefix_len goes_on (cs ++ more) ≡ length cs
+ends : (cs more : List ℕ) → AllGoOn cs → IsApart more → prefix_len is_entry_byte (cs ++ more) ≡ length cs
 ends [] more h apart = apart_stops more apart
 ends (c ∷ cs) more h apart =
-    ap (λ b. cond b (1 + prefix_len goes_on (cs ++ more)) 0) h.0 ∙ ap (λ n. 1 + n) (ends cs more h.1 apart) ∙ omega arith
+    ap (λ b. cond b (1 + prefix_len is_entry_byte (cs ++ more)) 0) h.0 ∙ ap (λ n. 1 + n) (ends cs more h.1 apart) ∙ omega arith
 
-pub number_ends : (z : ℤ) (more : List ℕ) → IsSmall z → IsApart more → prefix_len goes_on (signed_decimal z ++ more) ≡ length (signed_decimal z)
+pub number_ends : (z : ℤ) (more : List ℕ) → IsSmall z → IsApart more → prefix_len is_entry_byte (signed_decimal z ++ more) ≡ length (signed_decimal z)
 number_ends z more small apart = ends (signed_decimal z) more (number_goes_on z small) apart
 
 -- what follows a number stands apart from it
-pub led_apart : (ls : List (List ℕ)) (zs : List ℤ) → Suits ls zs → IsApart (led ls zs)
+pub led_apart : (ls : List (List ℕ)) (zs : List ℤ) → Suits ls zs → IsApart (led_numbers ls zs)
 led_apart [] [] h = tt
 led_apart [] (z ∷ zs) h = absurd h
 led_apart (l ∷ ls) [] h = absurd h

@@ -1,14 +1,37 @@
 -- The texts of inputs (this project's own).
-use Rattle.std.specs.Prelude.{◌≡◌, ◌≢◌, ℕ, zero, suc, if◌then◌else◌, IsTrue, List, [], ◌∷◌, ◌++◌, drop, replicate, slice_get, codes, Option, Some, None, MatchOption, unwrap_or, ℤ}
+use Rattle.std.specs.Prelude.{
+  ◌≡◌,
+  ◌≢◌,
+  ℕ,
+  zero,
+  suc,
+  if◌then◌else◌,
+  IsTrue,
+  List,
+  [],
+  ◌∷◌,
+  ◌++◌,
+  drop,
+  replicate,
+  slice_get,
+  codes,
+  Option,
+  Some,
+  None,
+  MatchOption,
+  unwrap_or,
+  ℤ,
+}
 use Rattle.std.specs.Fmt.{signed_decimal}
 use Rattle.c_tree.specs.declared.program.Local.{Local}
 use Rattle.c_tree.specs.declared.program.Global.{Global}
 use Rattle.c_tree.specs.declared.program.Func.{Func}
 use Rattle.c_tree.specs.declared.program.Program.{Program}
 use Rattle.c_tree.specs.declared.program.Input.{Input}
-use Rattle.c_tree.specs.Runs.{fits}
+use Rattle.c_tree.specs.Meaning.Runs.{fits}
 
--- what stands before each of so many numbers of an input variable: a blank, its name and `=` before the first, and a comma before each other one
+-- what stands before each of so many numbers of an input variable: a blank, its name and `=` before the first, and a
+-- comma before each other one
 abbrev pub own_leads : List ℕ → ℕ → List (List ℕ)
 own_leads name zero = []
 own_leads name (suc n) = (codes " " ++ name ++ codes "=") ∷ replicate n (codes ",")
@@ -33,14 +56,14 @@ abbrev pub input_leads : Program → List (List ℕ)
 input_leads p = entry_leads (slice_get p.funcs p.entry) ++ outer_leads p.globals
 
 -- each number in decimal, without leading zeros, behind what stands before it
-abbrev pub led : List (List ℕ) → List ℤ → List ℕ
-led [] zs = []
-led (l ∷ ls) [] = []
-led (l ∷ ls) (z ∷ zs) = l ++ signed_decimal z ++ led ls zs
+abbrev pub led_numbers : List (List ℕ) → List ℤ → List ℕ
+led_numbers [] zs = []
+led_numbers (l ∷ ls) [] = []
+led_numbers (l ∷ ls) (z ∷ zs) = l ++ signed_decimal z ++ led_numbers ls zs
 
 -- the text of an input begins behind the first blank, and is empty for no inputs
 abbrev pub input_text : Program → Input → List ℕ
-input_text p i = drop 1 (led (input_leads p) i.values)
+input_text p i = drop 1 (led_numbers (input_leads p) i.values)
 
 -- a fitting input, which has this text
 abbrev pub HasText : Program → List ℕ → Input → Type 0

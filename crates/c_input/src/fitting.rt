@@ -1,8 +1,8 @@
 //! Which inputs fit a program (this project's own).
 
 ghost use Rattle.std.specs.Prelude.{◌≡◌, [], ◌∷◌, replicate, option_copied};
-ghost use Rattle.c_tree.specs.Values as values;
-ghost use Rattle.c_tree.specs.Runs as spec;
+ghost use Rattle.c_tree.specs.Meaning.Values as values;
+ghost use Rattle.c_tree.specs.Meaning.Runs as spec;
 ghost use Rattle.c_input.specs.Starts.{rest_of, own_types};
 
 use crate::inputs::width;

@@ -1,9 +1,9 @@
 //! The store that an input gives (C11 6.7.9; the order of the inputs is this project's own).
 
 ghost use Rattle.std.specs.Prelude.{◌≡◌, ℕ, [], ◌∷◌, ◌++◌, Some, IsTrue, IfOk, OnOk, drop, map, slice_get, unwrap_or};
-ghost use Rattle.c_tree.specs.Values as values;
-ghost use Rattle.c_tree.specs.Runs as spec;
-ghost use Rattle.c_tree.specs.WellFormed.{WellFormedGlobal, WellFormedGlobals};
+ghost use Rattle.c_tree.specs.Meaning.Values as values;
+ghost use Rattle.c_tree.specs.Meaning.Runs as spec;
+ghost use Rattle.c_tree.specs.Keeping.WellFormed.{WellFormedGlobal, WellFormedGlobals};
 ghost use Rattle.c_input.specs.Starts.{NumberAt, Takes, own_width, own_slot};
 
 use c_semantics::zero_of;

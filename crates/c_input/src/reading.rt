@@ -34,7 +34,8 @@ fn checked(
     text: &[u8],
     input: Input,
 ) -> Result<Option<Input>, NoMemory>
-    ensures { IfOk result (λ o. MatchOption o (¬ (HasText program.now text.now input)) (λ i. (i ≡ input) × HasText program.now text.now input)) }
+    ensures { IfOk result (λ o. MatchOption o (¬ (HasText program.now text.now input)) (λ i. (i ≡ input)
+        × HasText program.now text.now input)) }
 {
     if !fits(program, &input) {
         return Ok(None);
@@ -54,7 +55,8 @@ fn numbers_in(
     leads: &[Items<u8>],
     text: &[u8],
 ) -> Result<Option<Items<i64>>, NoMemory>
-    ensures { IfOk result (λ o. (zs : List ℤ) → Suits leads.now zs → text.now ≡ drop 1 (spec.led leads.now zs) → o ≡ Some zs) }
+    ensures { IfOk result (λ o. (zs : List ℤ) → Suits leads.now zs → text.now ≡ drop 1 (spec.led_numbers leads.now zs)
+        → o ≡ Some zs) }
 {
     let mut values = Items::new(alloc);
     let mut rest = text;
@@ -87,7 +89,7 @@ fn after(count: usize, bytes: &[u8]) -> &[u8]
 
 // How many bytes stand before the first blank or comma.
 fn number_len(bytes: &[u8]) -> usize
-    ensures value { result ≡ prefix_len words.goes_on bytes.now }
+    ensures value { result ≡ prefix_len words.is_entry_byte bytes.now }
     ensures within { result ≤ length bytes.now }
 {
     for (i, byte) in bytes.iter().enumerate() {
@@ -100,7 +102,7 @@ fn number_len(bytes: &[u8]) -> usize
 
 // Whether a byte is neither a blank nor a comma.
 fn goes_on(byte: u8) -> bool
-    ensures { result ≡ words.goes_on byte }
+    ensures { result ≡ words.is_entry_byte byte }
 {
     byte != b' ' && byte != b','
 }

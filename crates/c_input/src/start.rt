@@ -1,8 +1,8 @@
 //! What the run of a program on an input starts with (C11 6.7.9, 6.9.1; the order of the inputs is this project's own).
 
 ghost use Rattle.std.specs.Prelude.{◌≡◌, Some, IsTrue, IfOk, drop, length, slice_get};
-ghost use Rattle.c_tree.specs.Runs as spec;
-ghost use Rattle.c_tree.specs.WellFormed.{WellFormedGlobals};
+ghost use Rattle.c_tree.specs.Meaning.Runs as spec;
+ghost use Rattle.c_tree.specs.Keeping.WellFormed.{WellFormedGlobals};
 
 use crate::inputs::{arguments, entry_types, global_slots};
 use c_tree::{Func, Input, NoMemory, Program, Slot, Value};
@@ -29,8 +29,10 @@ pub fn start_of(
     requires formed { WellFormedGlobals program.now.globals }
     requires entry { slice_get program.now.funcs program.now.entry ≡ Some entry.now }
     requires fits { IsTrue (spec.fits program.now input.now) }
-    ensures arguments { IfOk result (λ s. s.arguments ≡ spec.arguments (spec.param_types entry.now.params entry.now.locals) input.now.values) }
-    ensures globals { IfOk result (λ s. s.globals.items ≡ spec.global_slots program.now.globals (drop (length (spec.param_types entry.now.params entry.now.locals)) input.now.values)) }
+    ensures arguments { IfOk result (λ s. s.arguments
+        ≡ spec.arguments (spec.param_types entry.now.params entry.now.locals) input.now.values) }
+    ensures globals { IfOk result (λ s. s.globals.items ≡ spec.global_slots program.now.globals
+        (drop (length (spec.param_types entry.now.params entry.now.locals)) input.now.values)) }
 {
     let values = input.values.as_slice();
     let types = entry_types(alloc, entry)?;

@@ -2,7 +2,7 @@
 
 ghost use Rattle.std.specs.Prelude.{◌≡◌, ◌++◌, IsTrue, IfOk, OnOk, drop};
 ghost use Rattle.std.specs.Fmt.{signed_decimal};
-ghost use Rattle.c_tree.specs.Runs.{fits};
+ghost use Rattle.c_tree.specs.Meaning.Runs.{fits};
 ghost use Rattle.c_input.specs.InputTexts as spec;
 
 use crate::leads::input_leads;
@@ -42,7 +42,7 @@ fn drop_first(text: &mut Vec<u8>)
 
 // Each number behind what stands before it.
 fn led(alloc: Global, leads: &[Items<u8>], numbers: &[i64]) -> Result<Vec<u8>, NoMemory>
-    ensures { IfOk result (λ t. t.items ≡ spec.led leads.now numbers.now) }
+    ensures { IfOk result (λ t. t.items ≡ spec.led_numbers leads.now numbers.now) }
 {
     let mut text = Vec::new(alloc);
     for (i, lead) in leads.iter().enumerate() {

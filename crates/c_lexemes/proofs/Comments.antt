@@ -3,9 +3,9 @@ use Rattle.std.proofs.Common.{◌≡◌, ℕ, ◌+◌, true, List, length, take,
 use Rattle.std.proofs.lemmas.Slice.Eq.{bytes_eq-Decides}
 use Rattle.memchr.specs.Find.{FindsNeedle, OccursAt}
 use Rattle.memchr.proofs.lemmas.MatchLemmas.{OccursAt-part, OccursAt-from_part}
-use Rattle.c_tree.specs.Lexing.{opens_block_comment, closes_at, IsBlockComment}
+use Rattle.c_tree.specs.Tokens.Lexing.{opens_block_comment, closes_at, IsBlockComment}
 use Rattle.c_lexemes.specs.Unread.{IsOpenComment}
-use Rattle.c_lexemes.proofs.Lines.{not_true}
+use Rattle.std.proofs.lemmas.Bool.{false_from_ne_true}
 
 pub closes_fits : (bytes : List ℕ) (k : ℕ) → closes_at bytes k ≡ true → OccursAt bytes (codes "*/") k
 unfolding closes_at
@@ -25,7 +25,7 @@ comment_closed here inside opens found =
       opens = opens;
       inside = inside;
       closes = closes (drop 2 here) inside found.1;
-      first = λ k below. not_true (closes_at (drop 2 here) k) (λ h. found.0.before k (omega arith) below (closes_fits (drop 2 here) k h));
+      first = λ k below. false_from_ne_true (closes_at (drop 2 here) k) (λ h. found.0.before k (omega arith) below (closes_fits (drop 2 here) k h));
       size = refl;
     }
 
@@ -33,5 +33,5 @@ pub comment_open : (here : List ℕ) → opens_block_comment here ≡ true → F
 comment_open here opens none =
     record {
       opens = opens;
-      open_ = λ k. not_true (closes_at (drop 2 here) k) (λ h. let occurs = closes_fits (drop 2 here) k h in let fits = occurs.fits in none k (omega arith) (omega arith) occurs);
+      open_ = λ k. false_from_ne_true (closes_at (drop 2 here) k) (λ h. let occurs = closes_fits (drop 2 here) k h in let fits = occurs.fits in none k (omega arith) (omega arith) occurs);
     }

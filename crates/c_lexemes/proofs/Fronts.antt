@@ -4,13 +4,10 @@ use Rattle.std.specs.Prelude.{bytes_eq}
 use Rattle.std.specs.List.{list_all, prefix_len}
 use Rattle.std.proofs.lemmas.Bool.Decides.{nat_tests}
 use Rattle.std.proofs.lemmas.Slice.Eq.{bytes_eq-Decides}
-use Rattle.c_tree.specs.Characters.{begins, is_blank, is_digit, is_nondigit}
-use Rattle.c_tree.specs.Lexemes.{is_among, keywords, marks, continues_number}
+use Rattle.c_tree.specs.Tokens.Characters.{begins, is_blank, is_digit, is_nondigit}
+use Rattle.c_tree.specs.Tokens.TokenKinds.{is_among, keywords, marks, continues_number}
 use Rattle.c_lexemes.specs.Lengths.{continues, number_length}
-
-pub both_true : (a b : Bool) → (a && b) ≡ true → (a ≡ true) × (b ≡ true)
-both_true true b e = (refl, e)
-both_true false b e = cc
+use Rattle.std.proofs.lemmas.Bool.{and_parts}
 
 -- ---- the longest front
 
@@ -51,29 +48,6 @@ number_beyond last (x ∷ xs) (suc m) more within = by_test (λ h. number_beyond
     by_test ih false e h = rw e refl
 
 -- ---- the first byte
-
-pub nondigit_is_no_digit : (c : ℕ) → is_nondigit c ≡ true → is_digit c ≡ false
-unfolding is_nondigit is_digit
-nondigit_is_no_digit c e = grind (arith, nat_tests)
-
--- an entry of a table each of whose entries begins so
-pub is_among-front : (p : ℕ → Bool) (table : List (List ℕ)) (bytes : List ℕ) → list_all (begins p) table ≡ true → is_among table bytes ≡ true → begins p bytes ≡ true
-is_among-front p [] bytes all among = cc
-is_among-front p (entry ∷ table) bytes all among =
-    let parts = both_true (begins p entry) (list_all (begins p) table) all in
-    by_test parts.0 (is_among-front p table bytes parts.1) (bytes_eq entry bytes) refl among
-  where
-    by_test : begins p entry ≡ true → (is_among table bytes ≡ true → begins p bytes ≡ true) → (b : Bool) → bytes_eq entry bytes ≡ b → (b || is_among table bytes) ≡ true → begins p bytes ≡ true
-    by_test first ih true e h = rw (sym ((bytes_eq-Decides entry bytes).0 e)) first
-    by_test first ih false e h = ih h
-
--- what a mark begins with
-unfoldable pub begins_mark : ℕ → Bool
-begins_mark c = not (is_nondigit c) && not (is_digit c) && not (is_blank c) && not (eqb c 35)
-
-pub marks_begin : list_all (begins begins_mark) marks ≡ true
-unfolding marks begins_mark is_nondigit is_digit is_blank
-marks_begin = refl
 
 pub keywords_begin : list_all (begins is_nondigit) keywords ≡ true
 unfolding keywords is_nondigit

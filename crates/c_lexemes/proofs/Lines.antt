@@ -4,12 +4,9 @@ use Rattle.std.specs.List.{after_last, suffix_len}
 use Rattle.std.proofs.lemmas.List.{take_all}
 use Rattle.std.proofs.lemmas.List.Sums.{position_or_len_is, suffix_len_is}
 use Rattle.memchr.specs.Find.{IsFirstByte, IsLastByte, is_byte}
-use Rattle.c_tree.specs.Characters.{is_line_feed}
-use Rattle.c_tree.specs.Lexing.{line_of}
-
-pub not_true : (b : Bool) → (b ≡ true → ⊥) → b ≡ false
-not_true true h = absurd (h refl)
-not_true false h = refl
+use Rattle.c_tree.specs.Tokens.Characters.{is_line_feed}
+use Rattle.c_tree.specs.Tokens.Lexing.{line_of}
+use Rattle.std.proofs.lemmas.Bool.{false_from_ne_true}
 
 -- ---- the rest of this line
 
@@ -18,20 +15,20 @@ unfolding line_of is_line_feed
 line_to_feed here end found =
     let high : end < length here = found.0.high in
     ap (λ (n : ℕ). take n here)
-    (position_or_len_is is_line_feed here end 0 (omega arith) (λ k below. not_true (is_line_feed (get_or here k 0)) (found.0.before k (omega arith) below)) (λ _. found.1))
+    (position_or_len_is is_line_feed here end 0 (omega arith) (λ k below. false_from_ne_true (is_line_feed (get_or here k 0)) (found.0.before k (omega arith) below)) (λ _. found.1))
 
 pub line_to_end : (here : List ℕ) → IsFirstByte (is_byte 10) here None → line_of here ≡ here
 unfolding line_of is_line_feed
 line_to_end here none =
     ap (λ (n : ℕ). take n here)
-    (position_or_len_is is_line_feed here (length here) 0 (omega arith) (λ k below. not_true (is_line_feed (get_or here k 0)) (none k (omega arith) below)) (λ h. absurd (omega arith)))
+    (position_or_len_is is_line_feed here (length here) 0 (omega arith) (λ k below. false_from_ne_true (is_line_feed (get_or here k 0)) (none k (omega arith) below)) (λ h. absurd (omega arith)))
     ∙ take_all (length here) here (omega arith)
 
 -- ---- the line so far
 
 is_other : (hay : List ℕ) (k : ℕ) → (is_byte 10 (get_or hay k 0) ≡ true → ⊥) → not (is_line_feed (get_or hay k 0)) ≡ true
 unfolding is_line_feed
-is_other hay k h = rw (not_true (is_byte 10 (get_or hay k 0)) h) refl
+is_other hay k h = rw (false_from_ne_true (is_byte 10 (get_or hay k 0)) h) refl
 
 pub last_from_feed : (before : List ℕ) (feed : ℕ) → IsLastByte (is_byte 10) before (Some feed) → drop (feed + 1) before ≡ after_last is_line_feed before
 unfolding is_line_feed

@@ -3,59 +3,24 @@ use Rattle.std.proofs.Common.{◌≡◌, ℕ, zero, suc, ◌+◌, ◌<◌, ◌�
 use Rattle.std.specs.List.{list_all, prefix_len}
 use Rattle.std.proofs.lemmas.List.Sums.{prefix_len-le-length}
 use Rattle.c_tree.specs.declared.token.Kind.TheVariants.{Word, Name, Mark}
-use Rattle.c_tree.specs.Characters.{begins, is_digit, is_nondigit, is_name_byte}
-use Rattle.c_tree.specs.Lexemes.{is_among, keywords, marks, is_name, is_number_run, continues_number, could_be_token, constant_of, kind_of}
-use Rattle.c_tree.specs.Lexing.{IsLongest}
+use Rattle.c_tree.specs.Tokens.Characters.{begins, is_digit, is_nondigit, is_name_byte}
+use Rattle.c_tree.specs.Tokens.TokenKinds.{is_among, keywords, marks, is_name, is_number_run, continues_number, could_be_token, constant_of, kind_of}
+use Rattle.c_tree.specs.Tokens.Lexing.{IsLongest}
 use Rattle.c_lexemes.specs.Unread.{HasNoToken, IsBadNumber}
 use Rattle.c_lexemes.specs.Lengths.{continues, number_length}
 use Rattle.c_lexemes.specs.Marks.{first_length, mark_length}
-use Rattle.c_lexemes.proofs.Fronts.{all_front, all_beyond, number_front, number_beyond, nondigit_is_no_digit, is_among-front, begins_mark, marks_begin, keywords_begin}
+use Rattle.c_lexemes.proofs.Fronts.{all_front, all_beyond, number_front, number_beyond, keywords_begin}
 use Rattle.c_lexemes.proofs.MarkTable.{IsLongestEntry, mark_length-longest}
-
-or_false : (a : Bool) → (a || false) ≡ a
-or_false true = refl
-or_false false = refl
-
-mark_no_name : (c : ℕ) → begins_mark c ≡ true → (is_nondigit c ≡ false) × (is_digit c ≡ false)
-unfolding begins_mark
-mark_no_name c e = by_tests (is_nondigit c) (is_digit c) refl refl
-  where
-    by_tests : (a b : Bool) → is_nondigit c ≡ a → is_digit c ≡ b → (is_nondigit c ≡ false) × (is_digit c ≡ false)
-    by_tests true b p q = let bad = rw p at e in cc
-    by_tests false true p q = let bad = rw (p, q) at e in cc
-    by_tests false false p q = (p, q)
-
-mark_begins : (c : ℕ) (cs : List ℕ) → is_among marks (c ∷ cs) ≡ true → (is_nondigit c ≡ false) × (is_digit c ≡ false)
-mark_begins c cs among = mark_no_name c (is_among-front begins_mark marks (c ∷ cs) marks_begin among)
-
-no_mark : (c : ℕ) (cs : List ℕ) → is_name_byte c ≡ true → is_among marks (c ∷ cs) ≡ false
-unfolding is_name_byte
-no_mark c cs e = by_test (is_among marks (c ∷ cs)) refl
-  where
-    by_test : (b : Bool) → is_among marks (c ∷ cs) ≡ b → b ≡ false
-    by_test true h = let parts = mark_begins c cs h in let bad = rw (parts.0, parts.1) at e in cc
-    by_test false h = refl
-
-nondigit_in_name : (c : ℕ) → is_nondigit c ≡ true → is_name_byte c ≡ true
-unfolding is_name_byte
-nondigit_in_name c e = rw e refl
+use Rattle.plain_laws.proofs.Booleans.{or-false}
+use Rattle.c_tree.proofs.FirstBytes.{token_nondigit, nondigit_in_name, no_mark, marks_begin, is_among-front, nondigit_is_no_digit}
 
 digit_in_name : (c : ℕ) → is_nondigit c ≡ false → is_digit c ≡ true → is_name_byte c ≡ true
 unfolding is_name_byte
 digit_in_name c e f = rw (e, f) refl
 
--- what could be a token, by its first byte
-token_nondigit : (c : ℕ) (cs : List ℕ) → is_nondigit c ≡ true → could_be_token (c ∷ cs) ≡ list_all is_name_byte cs
-unfolding could_be_token is_name is_number_run
-token_nondigit c cs e = rw (e, nondigit_is_no_digit c e, no_mark c cs (nondigit_in_name c e)) (or_twice (list_all is_name_byte cs))
-  where
-    or_twice : (a : Bool) → ((a || false) || false) ≡ a
-    or_twice true = refl
-    or_twice false = refl
-
 token_digit : (c : ℕ) (cs : List ℕ) → is_nondigit c ≡ false → is_digit c ≡ true → could_be_token (c ∷ cs) ≡ continues_number c cs
 unfolding could_be_token is_name is_number_run
-token_digit c cs e f = rw (e, f, no_mark c cs (digit_in_name c e f)) (or_false (continues_number c cs))
+token_digit c cs e f = rw (e, f, no_mark c cs (digit_in_name c e f)) (or-false (continues_number c cs))
 
 token_mark : (c : ℕ) (cs : List ℕ) → is_nondigit c ≡ false → is_digit c ≡ false → could_be_token (c ∷ cs) ≡ is_among marks (c ∷ cs)
 unfolding could_be_token is_name is_number_run

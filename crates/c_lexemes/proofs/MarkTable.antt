@@ -1,12 +1,11 @@
 -- The first entry of a table of marks that stands at a place is the longest there, since a longer entry comes first.
 use Rattle.std.proofs.Common.{◌≡◌, ℕ, ◌≤◌, Bool, true, false, cond, ◌&&◌, ◌||◌, leb, List, [], ◌∷◌, length, take, Option, Some, None, MatchOption, refl, sym, ◌∙◌, ap, subst, arith, length-take, length-take-le}
 use Rattle.std.specs.Prelude.{bytes_eq}
-use Rattle.std.proofs.lemmas.Bool.{leb-true}
+use Rattle.std.proofs.lemmas.Bool.{leb-true, and_parts}
 use Rattle.std.proofs.lemmas.Slice.Eq.{bytes_eq-Decides}
-use Rattle.c_tree.specs.Characters.{begins_with}
-use Rattle.c_tree.specs.Lexemes.{is_among, marks}
+use Rattle.c_tree.specs.Tokens.Characters.{begins_with}
+use Rattle.c_tree.specs.Tokens.TokenKinds.{is_among, marks}
 use Rattle.c_lexemes.specs.Marks.{first_length, mark_length}
-use Rattle.c_lexemes.proofs.Fronts.{both_true}
 
 -- no entry is longer than this, nor than one before it
 abbrev descends : ℕ → List (List ℕ) → Bool
@@ -24,7 +23,7 @@ either_true false b e f = e
 length-among : (most : ℕ) (table : List (List ℕ)) (bytes : List ℕ) → descends most table ≡ true → is_among table bytes ≡ true → length bytes ≤ most
 length-among most [] bytes down among = cc
 length-among most (entry ∷ table) bytes down among =
-    let parts = both_true (leb (length entry) most) (descends (length entry) table) down in
+    let parts = and_parts (leb (length entry) most) (descends (length entry) table) down in
     let small : length entry ≤ most = leb-true (length entry) most parts.0 in
     by_test small (λ h. length-among (length entry) table bytes parts.1 h) (bytes_eq entry bytes) refl among
   where
@@ -82,7 +81,7 @@ first_length-longest : (most : ℕ) (table : List (List ℕ)) (here : List ℕ) 
 unfolding first_length
 first_length-longest most [] here down = λ m within. refl
 first_length-longest most (entry ∷ table) here down =
-    let parts = both_true (leb (length entry) most) (descends (length entry) table) down in
+    let parts = and_parts (leb (length entry) most) (descends (length entry) table) down in
     by_test parts.1 (first_length-longest (length entry) table here parts.1) (begins_with here entry) refl
   where
     by_test : descends (length entry) table ≡ true → IsFirstLength table here (first_length table here) → (b : Bool) → begins_with here entry ≡ b → IsFirstLength (entry ∷ table) here (cond b (Some (length entry)) (first_length table here))

@@ -8,7 +8,7 @@ use Rattle.std.specs.Str.Parse.{digits_value, digits_value_after}
 use Rattle.std.proofs.Math.ListN.{drop_of_length-le}
 use Rattle.std.proofs.Math.Nat.{mul-le-mul_left}
 use Rattle.std.proofs.lemmas.List.{at_drop_more}
-use Rattle.c_tree.specs.Lexemes.{is_numeral, base_of, digits_of, typed, constant_in}
+use Rattle.c_tree.specs.Tokens.TokenKinds.{is_numeral, base_of, digits_of, number_kind, constant_in}
 use Rattle.c_tree.specs.declared.token.Kind.TheVariants.{Number}
 
 -- what 64 bits hold of a numeral
@@ -57,17 +57,17 @@ held-end base value i digits small some end is all =
     let none : drop i digits ≡ [] = drop_of_length-le digits end in
     held-whole base value digits small some (sym (rw none at all)) (rw none at is)
 
-typed-large : (suffixed : Bool) (base value : ℕ) → 2 ^ 64 ≤ value → typed suffixed base value ≡ None
-unfolding typed
-typed-large true base value large = rw (le-ltb value (2 ^ 32) (omega arith)) refl
-typed-large false base value large = rw (le-ltb value (2 ^ 31) (omega arith), le-ltb value (2 ^ 32) (omega arith)) (by_test (not (eqb base 10)))
+number_kind-large : (suffixed : Bool) (base value : ℕ) → 2 ^ 64 ≤ value → number_kind suffixed base value ≡ None
+unfolding number_kind
+number_kind-large true base value large = rw (le-ltb value (2 ^ 32) (omega arith)) refl
+number_kind-large false base value large = rw (le-ltb value (2 ^ 31) (omega arith), le-ltb value (2 ^ 32) (omega arith)) (by_test (not (eqb base 10)))
   where
     by_test : (b : Bool) → cond (b && false) (Some (Number true value)) None ≡ None
     by_test true = refl
     by_test false = refl
 
 -- the constant, by what 64 bits hold of its numeral
-pub constant_in_held : (suffixed : Bool) (bytes : List ℕ) (r : Option ℕ) → r ≡ held (base_of bytes) (digits_of bytes) → constant_in suffixed bytes ≡ option_and_then (typed suffixed (base_of bytes)) r
+pub constant_in_held : (suffixed : Bool) (bytes : List ℕ) (r : Option ℕ) → r ≡ held (base_of bytes) (digits_of bytes) → constant_in suffixed bytes ≡ option_and_then (number_kind suffixed (base_of bytes)) r
 unfolding constant_in
 constant_in_held suffixed bytes r is = rw is (by_tests (is_numeral (base_of bytes) (digits_of bytes)) (ltb value (2 ^ 64)) refl)
   where
@@ -75,7 +75,7 @@ constant_in_held suffixed bytes r is = rw is (by_tests (is_numeral (base_of byte
     value = digits_value (base_of bytes) (digits_of bytes)
 
     by_tests : (numeral small : Bool) → ltb value (2 ^ 64) ≡ small
-        → cond numeral (typed suffixed (base_of bytes) value) None ≡ option_and_then (typed suffixed (base_of bytes)) (cond (numeral && small) (Some value) None)
+        → cond numeral (number_kind suffixed (base_of bytes) value) None ≡ option_and_then (number_kind suffixed (base_of bytes)) (cond (numeral && small) (Some value) None)
     by_tests true true e = refl
-    by_tests true false e = typed-large suffixed (base_of bytes) value (ltb-false value (2 ^ 64) e)
+    by_tests true false e = number_kind-large suffixed (base_of bytes) value (ltb-false value (2 ^ 64) e)
     by_tests false small e = refl

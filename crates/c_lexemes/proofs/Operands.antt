@@ -1,18 +1,18 @@
 -- The number of a `loopbound` pragma.
 use Rattle.std.proofs.Common.{◌≡◌, ℕ, ◌^◌, ◌<◌, ◌≤◌, Bool, true, false, cond, ltb, leb, ◌&&◌, List, [], ◌∷◌, length, Option, Some, None, refl, ap, arith, lt-ltb, le-leb, length-drop}
 use Rattle.std.specs.Prelude.{option_map}
-use Rattle.std.proofs.lemmas.Bool.{lt-leb}
+use Rattle.std.proofs.lemmas.Bool.{lt-leb, and_parts}
 use Rattle.std.specs.List.{list_all}
 use Rattle.std.specs.Char.{digit_value}
 use Rattle.std.specs.Str.Parse.{digits_value, AllDigits}
 use Rattle.std.proofs.Math.Nat.{pow-le-pow_right}
 use Rattle.std.proofs.lemmas.Bool.Decides.{nat_tests}
 use Rattle.std.proofs.lemmas.Int.Digits.{digits_value-lt}
-use Rattle.c_tree.specs.Characters.{is_digit}
-use Rattle.c_tree.specs.Lexemes.{is_numeral}
-use Rattle.c_tree.specs.Lexing.{after_spaces, after_word, operand_of, operand_digits, operand_rest, is_bound_operand, is_line_end}
+use Rattle.c_tree.specs.Tokens.Characters.{is_digit}
+use Rattle.c_tree.specs.Tokens.TokenKinds.{is_numeral}
+use Rattle.c_tree.specs.Tokens.Lexing.{after_spaces, after_word, operand_of, operand_digits, operand_rest, is_bound_operand, is_line_end}
 use Rattle.c_lexemes.specs.Directives.{IsOperand}
-use Rattle.c_lexemes.proofs.Fronts.{both_true, all_front}
+use Rattle.c_lexemes.proofs.Fronts.{all_front}
 use Rattle.c_lexemes.proofs.Numerals.{held}
 
 digit_small : (c : ℕ) → is_digit c ≡ true → digit_value c < 10
@@ -21,11 +21,11 @@ digit_small c e = grind (arith, nat_tests)
 
 all_digits : (ds : List ℕ) → list_all is_digit ds ≡ true → AllDigits 10 ds
 all_digits [] e = tt
-all_digits (d ∷ ds) e = let parts = both_true (is_digit d) (list_all is_digit ds) e in (digit_small d parts.0, all_digits ds parts.1)
+all_digits (d ∷ ds) e = let parts = and_parts (is_digit d) (list_all is_digit ds) e in (digit_small d parts.0, all_digits ds parts.1)
 
 all_below_ten : (ds : List ℕ) → list_all is_digit ds ≡ true → list_all (λ c. ltb (digit_value c) 10) ds ≡ true
 all_below_ten [] e = refl
-all_below_ten (d ∷ ds) e = let parts = both_true (is_digit d) (list_all is_digit ds) e in rw (lt-ltb (digit_value d) 10 (digit_small d parts.0)) (all_below_ten ds parts.1)
+all_below_ten (d ∷ ds) e = let parts = and_parts (is_digit d) (list_all is_digit ds) e in rw (lt-ltb (digit_value d) 10 (digit_small d parts.0)) (all_below_ten ds parts.1)
 
 ten_digits : (ds : List ℕ) → list_all is_digit ds ≡ true → length ds ≤ 10 → digits_value 10 ds < 2 ^ 64
 ten_digits ds all short =

@@ -1,7 +1,7 @@
 -- How far a token reaches.
 use Rattle.std.specs.Prelude.{ℕ, ◌+◌, ◌==◌, Bool, ◌&&◌, ◌||◌, List, [], ◌∷◌, if◌then◌else◌}
 use Rattle.std.specs.Str.{byte}
-use Rattle.c_tree.specs.Characters.{is_name_byte, is_sign, is_exponent}
+use Rattle.c_tree.specs.Tokens.Characters.{is_name_byte, is_sign, is_exponent}
 
 -- a byte goes on the number whose last byte so far is `last`
 unfoldable pub continues : ℕ → ℕ → Bool

@@ -1,7 +1,7 @@
 -- The first entry of a table that a text begins with.
 use Rattle.std.specs.Prelude.{ℕ, List, [], ◌∷◌, length, Option, Some, None, if◌then◌else◌}
-use Rattle.c_tree.specs.Characters.{begins_with}
-use Rattle.c_tree.specs.Lexemes.{marks}
+use Rattle.c_tree.specs.Tokens.Characters.{begins_with}
+use Rattle.c_tree.specs.Tokens.TokenKinds.{marks}
 
 -- the length of that entry
 unfoldable pub first_length : List (List ℕ) → List ℕ → Option ℕ

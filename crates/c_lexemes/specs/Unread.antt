@@ -1,7 +1,7 @@
 -- Where bytes begin no token, a comment has no end, and a number is no constant.
 use Rattle.std.specs.Prelude.{◌≡◌, ℕ, ◌≤◌, true, false, List, length, take, drop, None}
-use Rattle.c_tree.specs.Lexemes.{could_be_token, is_number_run, kind_of}
-use Rattle.c_tree.specs.Lexing.{IsLongest, opens_block_comment, closes_at}
+use Rattle.c_tree.specs.Tokens.TokenKinds.{could_be_token, is_number_run, kind_of}
+use Rattle.c_tree.specs.Tokens.Lexing.{IsLongest, opens_block_comment, closes_at}
 
 -- no front of the bytes could constitute a token
 abbrev pub HasNoToken : List ℕ → Type 0

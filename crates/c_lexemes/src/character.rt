@@ -1,11 +1,11 @@
 //! Classes of bytes (C11 5.2.1).
 
 ghost use Rattle.std.specs.Prelude.{◌≡◌};
-ghost use Rattle.c_tree.specs.Characters as class;
-ghost use Rattle.c_tree.specs.Lexemes as lexemes;
+ghost use Rattle.c_tree.specs.Tokens.Characters as class;
+ghost use Rattle.c_tree.specs.Tokens.TokenKinds as lexemes;
 
 /// Whether the byte is a space, a tab, a line feed, a vertical tab, a form feed or a carriage return.
-#[tactic(auto, unfolding(c_tree::specs::Characters::is_blank))]
+#[tactic(auto, unfolding(c_tree::specs::Tokens::Characters::is_blank))]
 pub fn is_blank(byte: u8) -> bool
     ensures { result ≡ class.is_blank byte }
 {
@@ -13,7 +13,7 @@ pub fn is_blank(byte: u8) -> bool
 }
 
 /// Whether the byte is a space or a tab.
-#[tactic(auto, unfolding(c_tree::specs::Characters::is_space_or_tab))]
+#[tactic(auto, unfolding(c_tree::specs::Tokens::Characters::is_space_or_tab))]
 pub(crate) fn is_space_or_tab(byte: u8) -> bool
     ensures { result ≡ class.is_space_or_tab byte }
 {
@@ -21,7 +21,7 @@ pub(crate) fn is_space_or_tab(byte: u8) -> bool
 }
 
 /// Whether the byte is a carriage return.
-#[tactic(auto, unfolding(c_tree::specs::Characters::is_carriage_return))]
+#[tactic(auto, unfolding(c_tree::specs::Tokens::Characters::is_carriage_return))]
 pub(crate) fn is_carriage_return(byte: u8) -> bool
     ensures { result ≡ class.is_carriage_return byte }
 {
@@ -29,7 +29,7 @@ pub(crate) fn is_carriage_return(byte: u8) -> bool
 }
 
 /// Whether the byte is a decimal digit.
-#[tactic(auto, unfolding(c_tree::specs::Characters::is_digit))]
+#[tactic(auto, unfolding(c_tree::specs::Tokens::Characters::is_digit))]
 pub(crate) fn is_digit(byte: u8) -> bool
     ensures { result ≡ class.is_digit byte }
 {
@@ -37,7 +37,7 @@ pub(crate) fn is_digit(byte: u8) -> bool
 }
 
 /// Whether the byte is a letter or `_`, with which a name may begin.
-#[tactic(auto, unfolding(c_tree::specs::Characters::is_nondigit))]
+#[tactic(auto, unfolding(c_tree::specs::Tokens::Characters::is_nondigit))]
 pub(crate) fn is_nondigit(byte: u8) -> bool
     ensures { result ≡ class.is_nondigit byte }
 {
@@ -45,7 +45,7 @@ pub(crate) fn is_nondigit(byte: u8) -> bool
 }
 
 /// Whether the byte may stand in a name: a letter, `_` or a digit.
-#[tactic(auto, unfolding(c_tree::specs::Characters::is_name_byte))]
+#[tactic(auto, unfolding(c_tree::specs::Tokens::Characters::is_name_byte))]
 pub(crate) fn is_name_byte(byte: u8) -> bool
     ensures { result ≡ class.is_name_byte byte }
 {
@@ -53,7 +53,7 @@ pub(crate) fn is_name_byte(byte: u8) -> bool
 }
 
 /// Whether the byte is a letter after which a sign goes on with a number run.
-#[tactic(auto, unfolding(c_tree::specs::Characters::is_exponent))]
+#[tactic(auto, unfolding(c_tree::specs::Tokens::Characters::is_exponent))]
 pub(crate) fn is_exponent(byte: u8) -> bool
     ensures { result ≡ class.is_exponent byte }
 {
@@ -61,7 +61,7 @@ pub(crate) fn is_exponent(byte: u8) -> bool
 }
 
 /// Whether the byte is `+` or `-`.
-#[tactic(auto, unfolding(c_tree::specs::Characters::is_sign))]
+#[tactic(auto, unfolding(c_tree::specs::Tokens::Characters::is_sign))]
 pub(crate) fn is_sign(byte: u8) -> bool
     ensures { result ≡ class.is_sign byte }
 {
@@ -69,7 +69,7 @@ pub(crate) fn is_sign(byte: u8) -> bool
 }
 
 /// Whether the byte is the suffix of an unsigned constant.
-#[tactic(auto, unfolding(c_tree::specs::Lexemes::is_suffix))]
+#[tactic(auto, unfolding(c_tree::specs::Tokens::TokenKinds::is_suffix))]
 pub(crate) fn is_suffix(byte: u8) -> bool
     ensures { result ≡ lexemes.is_suffix byte }
 {

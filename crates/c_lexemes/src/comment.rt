@@ -1,13 +1,13 @@
 //! Comments (C11 6.4.9) and the ends of lines.
 
 ghost use Rattle.std.specs.Prelude.{◌≡◌, ◌≤◌, true, IsTrue, length, MatchOption};
-ghost use Rattle.c_tree.specs.Lexing as lexing;
+ghost use Rattle.c_tree.specs.Tokens.Lexing as lexing;
 ghost use Rattle.c_lexemes.specs.Unread.{IsOpenComment};
 
 use memchr::{memchr, memmem};
 
 /// What stands up to the end of the line.
-#[tactic(auto, unfolding(c_tree::specs::Lexing::line_of, c_tree::specs::Characters::is_line_feed))]
+#[tactic(auto, unfolding(c_tree::specs::Tokens::Lexing::line_of, c_tree::specs::Tokens::Characters::is_line_feed))]
 pub fn line_of(here: &[u8]) -> &[u8]
     ensures { result.now ≡ lexing.line_of here.now }
 {
@@ -18,7 +18,7 @@ pub fn line_of(here: &[u8]) -> &[u8]
 }
 
 /// Whether `/*` stands here.
-#[tactic(auto, unfolding(c_tree::specs::Lexing::opens_block_comment))]
+#[tactic(auto, unfolding(c_tree::specs::Tokens::Lexing::opens_block_comment))]
 pub fn opens_block_comment(here: &[u8]) -> bool
     ensures value { result ≡ lexing.opens_block_comment here.now }
     ensures long { IsTrue result → 2 ≤ length here.now }
@@ -27,7 +27,7 @@ pub fn opens_block_comment(here: &[u8]) -> bool
 }
 
 /// Whether `//` stands here.
-#[tactic(auto, unfolding(c_tree::specs::Lexing::opens_line_comment))]
+#[tactic(auto, unfolding(c_tree::specs::Tokens::Lexing::opens_line_comment))]
 pub fn opens_line_comment(here: &[u8]) -> bool
     ensures { result ≡ lexing.opens_line_comment here.now }
 {

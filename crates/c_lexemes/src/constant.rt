@@ -2,13 +2,14 @@
 
 ghost use Rattle.std.specs.Prelude.{◌≡◌, ◌≤◌, ◌&&◌, ◌^◌, nat_lt, length, IsTrue, if◌then◌else◌};
 ghost use Rattle.std.specs.Str.Parse.{digits_value};
-ghost use Rattle.c_tree.specs.Lexemes as lexemes;
+ghost use Rattle.c_tree.specs.Tokens.TokenKinds as lexemes;
 
 use crate::character::is_suffix;
 use c_tree::Kind;
 
 /// The constant that a number run is: of `int` or `unsigned`, with its value.
-#[tactic(auto, unfolding(c_tree::specs::Lexemes::constant_of, c_tree::specs::Lexemes::is_suffixed, c_tree::specs::Lexemes::without_suffix))]
+#[tactic(auto, unfolding(c_tree::specs::Tokens::TokenKinds::constant_of,
+    c_tree::specs::Tokens::TokenKinds::is_suffixed, c_tree::specs::Tokens::TokenKinds::without_suffix))]
 pub(crate) fn constant_of(run: &[u8]) -> Option<Kind>
     ensures { result ≡ lexemes.constant_of run.now }
 {
@@ -26,7 +27,7 @@ fn constant_in(suffixed: bool, bytes: &[u8]) -> Option<Kind>
     typed(suffixed, base, value)
 }
 
-#[tactic(auto, unfolding(c_tree::specs::Lexemes::is_hexadecimal))]
+#[tactic(auto, unfolding(c_tree::specs::Tokens::TokenKinds::is_hexadecimal))]
 fn is_hexadecimal(bytes: &[u8]) -> bool
     ensures long { IsTrue result → 2 ≤ length bytes.now }
     ensures value { result ≡ lexemes.is_hexadecimal bytes.now }
@@ -34,7 +35,7 @@ fn is_hexadecimal(bytes: &[u8]) -> bool
     bytes.starts_with(b"0x") || bytes.starts_with(b"0X")
 }
 
-#[tactic(auto, unfolding(c_tree::specs::Lexemes::base_of))]
+#[tactic(auto, unfolding(c_tree::specs::Tokens::TokenKinds::base_of))]
 fn base_of(bytes: &[u8]) -> u32
     ensures value { result ≡ lexemes.base_of bytes.now }
     ensures low { 8 ≤ result }
@@ -49,7 +50,7 @@ fn base_of(bytes: &[u8]) -> u32
     }
 }
 
-#[tactic(auto, unfolding(c_tree::specs::Lexemes::digits_of))]
+#[tactic(auto, unfolding(c_tree::specs::Tokens::TokenKinds::digits_of))]
 fn digits_of(bytes: &[u8]) -> &[u8]
     ensures { result.now ≡ lexemes.digits_of bytes.now }
 {
@@ -61,12 +62,13 @@ fn digits_of(bytes: &[u8]) -> &[u8]
 }
 
 /// The value of a numeral, if 64 bits hold it.
-#[tactic(auto, unfolding(c_tree::specs::Lexemes::is_numeral))]
+#[tactic(auto, unfolding(c_tree::specs::Tokens::TokenKinds::is_numeral))]
 pub(crate) fn value_of(base: u32, digits: &[u8]) -> Option<u64>
     requires low { 8 ≤ base }
     requires high { base ≤ 16 }
     ensures { result
-        ≡ (if lexemes.is_numeral base digits.now && nat_lt (digits_value base digits.now) (2 ^ 64) then Some (digits_value base digits.now) else None) }
+        ≡ (if lexemes.is_numeral base digits.now && nat_lt (digits_value base digits.now) (2 ^ 64)
+        then Some (digits_value base digits.now) else None) }
 {
     if digits.is_empty() {
         return None;
@@ -80,9 +82,9 @@ pub(crate) fn value_of(base: u32, digits: &[u8]) -> Option<u64>
     Some(value)
 }
 
-#[tactic(auto, unfolding(c_tree::specs::Lexemes::typed))]
+#[tactic(auto, unfolding(c_tree::specs::Tokens::TokenKinds::number_kind))]
 fn typed(suffixed: bool, base: u32, value: u64) -> Option<Kind>
-    ensures { result ≡ lexemes.typed suffixed base value }
+    ensures { result ≡ lexemes.number_kind suffixed base value }
 {
     if !suffixed && value < 1 << 31 {
         Some(Kind::Number {

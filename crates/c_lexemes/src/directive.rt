@@ -2,8 +2,8 @@
 
 ghost use Rattle.std.specs.Prelude.{◌≡◌, ◌<◌, ◌≤◌, length, count_by, ◌||◌};
 ghost use Rattle.std.specs.List.{after_last, list_all, prefix_len};
-ghost use Rattle.c_tree.specs.Characters as class;
-ghost use Rattle.c_tree.specs.Lexing as lexing;
+ghost use Rattle.c_tree.specs.Tokens.Characters as class;
+ghost use Rattle.c_tree.specs.Tokens.Lexing as lexing;
 ghost use Rattle.c_lexemes.specs.Directives.{IsOperand, IsDirective};
 
 use crate::character::{is_carriage_return, is_digit, is_space_or_tab};
@@ -29,7 +29,7 @@ pub enum Directive {
 }
 
 /// Whether a `#` stands here with only spaces and tabs before it on its line.
-#[tactic(auto, unfolding(c_tree::specs::Lexing::opens_directive))]
+#[tactic(auto, unfolding(c_tree::specs::Tokens::Lexing::opens_directive))]
 pub fn opens_directive(before: &[u8], here: &[u8]) -> bool
     ensures { result ≡ lexing.opens_directive before.now here.now }
 {
@@ -52,7 +52,7 @@ fn is_blank_line(line: &[u8]) -> bool
 }
 
 /// What stands behind the `#` on its line.
-#[tactic(auto, unfolding(c_tree::specs::Lexing::directive_of))]
+#[tactic(auto, unfolding(c_tree::specs::Tokens::Lexing::directive_of))]
 pub fn directive_of(here: &[u8]) -> &[u8]
     requires { 0 < length here.now }
     ensures { result.now ≡ lexing.directive_of here.now }
@@ -79,7 +79,7 @@ fn digits_length(bytes: &[u8]) -> usize
     bytes.iter().take_while(|byte| is_digit(**byte)).count()
 }
 
-#[tactic(auto, unfolding(c_tree::specs::Lexing::after_spaces))]
+#[tactic(auto, unfolding(c_tree::specs::Tokens::Lexing::after_spaces))]
 fn after_spaces(bytes: &[u8]) -> &[u8]
     ensures { result.now ≡ lexing.after_spaces bytes.now }
 {
@@ -87,7 +87,7 @@ fn after_spaces(bytes: &[u8]) -> &[u8]
 }
 
 /// The word behind spaces and tabs.
-#[tactic(auto, unfolding(c_tree::specs::Lexing::word_of))]
+#[tactic(auto, unfolding(c_tree::specs::Tokens::Lexing::word_of))]
 fn word_of(bytes: &[u8]) -> &[u8]
     ensures { result.now ≡ lexing.word_of bytes.now }
 {
@@ -96,7 +96,7 @@ fn word_of(bytes: &[u8]) -> &[u8]
 }
 
 /// What stands behind that word.
-#[tactic(auto, unfolding(c_tree::specs::Lexing::after_word))]
+#[tactic(auto, unfolding(c_tree::specs::Tokens::Lexing::after_word))]
 fn after_word(bytes: &[u8]) -> &[u8]
     ensures { result.now ≡ lexing.after_word bytes.now }
 {
@@ -104,7 +104,7 @@ fn after_word(bytes: &[u8]) -> &[u8]
     &bytes[name_length(bytes)..]
 }
 
-#[tactic(auto, unfolding(c_tree::specs::Lexing::is_marker))]
+#[tactic(auto, unfolding(c_tree::specs::Tokens::Lexing::is_marker))]
 fn is_marker(bytes: &[u8]) -> bool
     ensures { result ≡ lexing.is_marker bytes.now }
 {
@@ -114,21 +114,21 @@ fn is_marker(bytes: &[u8]) -> bool
     }
 }
 
-#[tactic(auto, unfolding(c_tree::specs::Lexing::is_pragma))]
+#[tactic(auto, unfolding(c_tree::specs::Tokens::Lexing::is_pragma))]
 fn is_pragma(line: &[u8]) -> bool
     ensures { result ≡ lexing.is_pragma line.now }
 {
     word_of(line) == b"pragma".as_slice()
 }
 
-#[tactic(auto, unfolding(c_tree::specs::Lexing::is_loopbound))]
+#[tactic(auto, unfolding(c_tree::specs::Tokens::Lexing::is_loopbound))]
 fn is_loopbound(line: &[u8]) -> bool
     ensures { result ≡ lexing.is_loopbound line.now }
 {
     is_pragma(line) && word_of(after_word(line)) == b"loopbound".as_slice()
 }
 
-#[tactic(auto, unfolding(c_tree::specs::Lexing::is_skipped))]
+#[tactic(auto, unfolding(c_tree::specs::Tokens::Lexing::is_skipped))]
 fn is_skipped(line: &[u8]) -> bool
     ensures { result ≡ lexing.is_skipped line.now }
 {
@@ -136,7 +136,7 @@ fn is_skipped(line: &[u8]) -> bool
 }
 
 /// What stands behind the words `pragma` and `loopbound`.
-#[tactic(auto, unfolding(c_tree::specs::Lexing::operand_of))]
+#[tactic(auto, unfolding(c_tree::specs::Tokens::Lexing::operand_of))]
 fn operand_of(line: &[u8]) -> &[u8]
     ensures { result.now ≡ lexing.operand_of line.now }
 {
@@ -161,7 +161,7 @@ fn is_spacing(bytes: &[u8]) -> bool
 }
 
 /// Whether only spaces, tabs and at most one carriage return stand here.
-#[tactic(auto, unfolding(c_tree::specs::Lexing::is_line_end))]
+#[tactic(auto, unfolding(c_tree::specs::Tokens::Lexing::is_line_end))]
 fn is_line_end(rest: &[u8]) -> bool
     ensures { result ≡ lexing.is_line_end rest.now }
 {
@@ -169,7 +169,7 @@ fn is_line_end(rest: &[u8]) -> bool
 }
 
 /// The digits of an operand, and what stands behind them.
-#[tactic(auto, unfolding(c_tree::specs::Lexing::operand_digits, c_tree::specs::Lexing::operand_rest))]
+#[tactic(auto, unfolding(c_tree::specs::Tokens::Lexing::operand_digits, c_tree::specs::Tokens::Lexing::operand_rest))]
 fn split_operand(operand: &[u8]) -> (&[u8], &[u8])
     ensures digits { result.0.now ≡ lexing.operand_digits operand.now }
     ensures rest { result.1.now ≡ lexing.operand_rest operand.now }
@@ -193,7 +193,8 @@ fn bound_of(operand: &[u8]) -> Option<(u64, usize)>
 }
 
 /// What stands behind a `#` on its line.
-#[tactic(auto, using(crate::proofs::Operands::operand_rest_le), unfolding(c_tree::specs::Lexing::is_bound_line))]
+#[tactic(auto, using(crate::proofs::Operands::operand_rest_le),
+    unfolding(c_tree::specs::Tokens::Lexing::is_bound_line))]
 pub fn read_directive(line: &[u8]) -> Directive
     ensures { IsDirective line.now result }
 {

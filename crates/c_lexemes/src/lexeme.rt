@@ -2,9 +2,9 @@
 
 ghost use Rattle.std.specs.Prelude.{◌≡◌, ◌≤◌, true, length, MatchOption};
 ghost use Rattle.std.specs.List.{prefix_len};
-ghost use Rattle.c_tree.specs.Characters as class;
-ghost use Rattle.c_tree.specs.Lexemes as lexemes;
-ghost use Rattle.c_tree.specs.Lexing.{IsLongest};
+ghost use Rattle.c_tree.specs.Tokens.Characters as class;
+ghost use Rattle.c_tree.specs.Tokens.TokenKinds as lexemes;
+ghost use Rattle.c_tree.specs.Tokens.Lexing.{IsLongest};
 ghost use Rattle.c_lexemes.specs.Unread.{HasNoToken};
 ghost use Rattle.c_lexemes.specs.Lengths as lengths;
 
@@ -62,7 +62,8 @@ fn begins_number(here: &[u8]) -> bool
 }
 
 /// The length of the longest token that stands first (C11 6.4 paragraph 4).
-#[tactic(auto, using(crate::proofs::LongestMatch::name_here, crate::proofs::LongestMatch::number_here, crate::proofs::LongestMatch::mark_here))]
+#[tactic(auto, using(crate::proofs::LongestMatch::name_here, crate::proofs::LongestMatch::number_here,
+    crate::proofs::LongestMatch::mark_here))]
 pub fn lexeme_length(here: &[u8]) -> Option<usize>
     ensures { MatchOption result (HasNoToken here.now) (IsLongest here.now) }
 {
@@ -76,7 +77,8 @@ pub fn lexeme_length(here: &[u8]) -> Option<usize>
 }
 
 /// What a token with these bytes is; `None` is a number run that is no constant.
-#[tactic(auto, using(crate::proofs::LongestMatch::kind_of_number, crate::proofs::LongestMatch::kind_of_word, crate::proofs::LongestMatch::kind_of_mark))]
+#[tactic(auto, using(crate::proofs::LongestMatch::kind_of_number, crate::proofs::LongestMatch::kind_of_word,
+    crate::proofs::LongestMatch::kind_of_mark))]
 pub fn kind_of(lexeme: &[u8]) -> Option<Kind>
     requires { lexemes.could_be_token lexeme.now ≡ true }
     ensures { result ≡ lexemes.kind_of lexeme.now }

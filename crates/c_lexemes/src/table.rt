@@ -1,7 +1,7 @@
 //! The keywords and the marks.
 
 ghost use Rattle.std.specs.Prelude.{◌≡◌, map};
-ghost use Rattle.c_tree.specs.Lexemes as lexemes;
+ghost use Rattle.c_tree.specs.Tokens.TokenKinds as lexemes;
 ghost use Rattle.c_lexemes.specs.Marks as spec;
 
 /// The keywords (C11 6.4.1).
@@ -71,7 +71,7 @@ fn is_among(table: &[&[u8]], bytes: &[u8]) -> bool
 }
 
 /// Whether the bytes are a keyword.
-#[tactic(auto, unfolding(c_tree::specs::Lexemes::keywords))]
+#[tactic(auto, unfolding(c_tree::specs::Tokens::TokenKinds::keywords))]
 pub(crate) fn is_keyword(bytes: &[u8]) -> bool
     ensures { result ≡ lexemes.is_among lexemes.keywords bytes.now }
 {
@@ -79,7 +79,7 @@ pub(crate) fn is_keyword(bytes: &[u8]) -> bool
 }
 
 /// The length of the mark that stands first; of several the longest.
-#[tactic(auto, unfolding(c_tree::specs::Lexemes::marks, crate::specs::Marks::mark_length))]
+#[tactic(auto, unfolding(c_tree::specs::Tokens::TokenKinds::marks, crate::specs::Marks::mark_length))]
 pub(crate) fn mark_length(here: &[u8]) -> Option<usize>
     ensures { result ≡ spec.mark_length here.now }
 {

@@ -9,18 +9,11 @@ use Rattle.std.specs.Map.{lookup}
 use Rattle.std.proofs.lemmas.Map.Text.{btree_map_updates_str}
 use Rattle.std.proofs.lemmas.Slice.Eq.{bytes_eq-Decides}
 use denote.Ref.{Bor}
-use Rattle.c_tree.specs.Scopes as scope
+use Rattle.c_tree.specs.Checking.Scopes as scope
 use Rattle.c_names.specs.declared.names.Binding.{Binding}
 use Rattle.c_names.specs.declared.names.Declaration.{Declaration}
 use Rattle.c_names.specs.Tables.{known, known_of, known_as, last_binding, Rebinds, HideAfter, IsTable}
-
-option_or-assoc : {A : Type 0} (a b c : Option A) → option_or (option_or a b) c ≡ option_or a (option_or b c)
-option_or-assoc None b c = refl
-option_or-assoc (Some x) b c = refl
-
-option_or-None : {A : Type 0} (a : Option A) → option_or a None ≡ a
-option_or-None None = refl
-option_or-None (Some x) = refl
+use Rattle.plain_laws.proofs.Options.{option_or-assoc, option_or-None}
 
 option_map-or : {A B : Type 0} (f : A → B) (a b : Option A) → option_map f (option_or a b) ≡ option_or (option_map f a) (option_map f b)
 option_map-or f None b = refl

@@ -5,19 +5,19 @@ use Rattle.std.specs.Ordering.{nat_cmp}
 use Rattle.std.specs.BTreeMap.{BTreeMap, get_by}
 use Rattle.std.specs.Cmp.Lexicographic.{slice_cmp}
 use denote.Ref.{Bor}
-use Rattle.c_tree.specs.Scopes as scope
+use Rattle.c_tree.specs.Checking.Scopes as scope
 use Rattle.c_names.specs.declared.names.Entity.{Entity}
 use Rattle.c_names.specs.declared.names.Entity.TheVariants.{Variable, Function}
 use Rattle.c_names.specs.declared.names.Binding.{Binding}
 use Rattle.c_names.specs.declared.names.Declaration.{Declaration}
 
 -- what the code's entities are
-abbrev pub entity_of : Entity → scope.Entity
-entity_of (Variable v array constant) = scope.Variable v array constant
-entity_of (Function n params result) = scope.Function n params result
+abbrev pub entity_view : Entity → scope.Entity
+entity_view (Variable v array constant) = scope.Variable v array constant
+entity_view (Function n params result) = scope.Function n params result
 
 abbrev pub known_of : Declaration → scope.Known
-known_of d = record { name = d.name.now; depth = d.binding.depth; entity = entity_of d.binding.entity }
+known_of d = record { name = d.name.now; depth = d.binding.depth; entity = entity_view d.binding.entity }
 
 abbrev pub known : List Declaration → List scope.Known
 known ds = map known_of ds
@@ -25,7 +25,8 @@ known ds = map known_of ds
 -- the last binding of a name
 abbrev pub last_binding : List Declaration → List ℕ → Option Binding
 last_binding [] name = None
-last_binding (d ∷ ds) name = option_or (last_binding ds name) (if bytes_eq d.name.now name then Some d.binding else None)
+last_binding (d ∷ ds) name = option_or (last_binding ds name) (if bytes_eq d.name.now name then Some d.binding
+    else None)
 
 -- what the map has for a name
 abbrev pub looked_up : BTreeMap (Bor (List ℕ)) Binding → List ℕ → Option Binding
@@ -50,4 +51,4 @@ pub record IsTable (latest : BTreeMap (Bor (List ℕ)) Binding) (declared : List
 
 -- a binding of a name
 abbrev pub known_as : List ℕ → Binding → scope.Known
-known_as name b = record { name = name; depth = b.depth; entity = entity_of b.entity }
+known_as name b = record { name = name; depth = b.depth; entity = entity_view b.entity }

@@ -1,8 +1,24 @@
 //! The names in scope.
 
-ghost use Rattle.std.specs.Prelude.{◌≡◌, ◌++◌, ◌<◌, ◌≤◌, ◌-◌, ℕ, List, ◌∷◌, [], length, take, OnOk, OnErr, option_map, Option};
-ghost use Rattle.c_tree.specs.Scopes as scope;
-ghost use Rattle.c_names.specs.Tables.{known, last_binding, IsTable, Rebinds, entity_of, known_as};
+ghost use Rattle.std.specs.Prelude.{
+  ◌≡◌,
+  ◌++◌,
+  ◌<◌,
+  ◌≤◌,
+  ◌-◌,
+  ℕ,
+  List,
+  ◌∷◌,
+  [],
+  length,
+  take,
+  OnOk,
+  OnErr,
+  option_map,
+  Option,
+};
+ghost use Rattle.c_tree.specs.Checking.Scopes as scope;
+ghost use Rattle.c_names.specs.Tables.{known, last_binding, IsTable, Rebinds, entity_view, known_as};
 
 use c_tree::{NoMemory, Ty, Var};
 use std::alloc::Global;
@@ -59,7 +75,7 @@ impl<'a> Model for Names<'a> {
 impl Entity {
     /// The variable, if it is one; else any.
     pub fn variable(entity: Option<Entity>) -> Var
-        ensures { result ≡ scope.variable (option_map entity_of entity) }
+        ensures { result ≡ scope.variable (option_map entity_view entity) }
     {
         match entity {
             Some(Entity::Variable { var, .. }) => var,
@@ -70,7 +86,7 @@ impl Entity {
 
     /// The function's number, if it is one; else any.
     pub fn function_number(entity: Option<Entity>) -> u32
-        ensures { result ≡ scope.function_number (option_map entity_of entity) }
+        ensures { result ≡ scope.function_number (option_map entity_view entity) }
     {
         match entity {
             Some(Entity::Function { number, .. }) => number,
@@ -107,7 +123,7 @@ impl<'a> Names<'a> {
 
     /// What a name stands for, if it is in scope.
     pub fn entity(&self, name: &[u8]) -> Option<Entity>
-        ensures { option_map entity_of result ≡ scope.entity_of self.now name.now }
+        ensures { option_map entity_view result ≡ scope.entity_of self.now name.now }
     {
         match self.latest(name) {
             None => None,
@@ -127,7 +143,8 @@ impl<'a> Names<'a> {
 
     /// Declares a name in the scope of this depth. At want of memory the names are as before.
     pub fn declare(&mut self, name: &'a [u8], depth: usize, entity: Entity) -> Result<(), NoMemory>
-        ensures declared { OnOk result (self.new ≡ self.old ++ (record { name = name.now; depth = depth; entity = entity_of entity }) ∷ []) }
+        ensures declared { OnOk result (self.new ≡ self.old
+            ++ (record { name = name.now; depth = depth; entity = entity_view entity }) ∷ []) }
         ensures same { OnErr result (self.new ≡ self.old) }
     {
         let binding = Binding { depth, entity };

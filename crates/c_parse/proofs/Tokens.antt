@@ -1,8 +1,8 @@
 -- The tokens of a text, one at a time.
 use Rattle.std.proofs.Common.{◌≡◌, ℕ, ◌<◌, suc, List, [], ◌∷◌, drop, get_or, length, refl, ap, sym, ◌∙◌, arith}
 use Rattle.c_tree.specs.declared.token.Token.{Token}
-use Rattle.c_tree.specs.Symbols.{Lexeme, lexeme, lexemes}
-use Rattle.parse_laws.specs.Parser.{head, tail}
+use Rattle.c_tree.specs.Tokens.Symbols.{Lexeme, lexeme, lexemes}
+use Rattle.parse_laws.specs.Parser.{head_lexeme, tail}
 
 pub lexemes-none : (text : List ℕ) (ts : List Token) → length ts < 1 → lexemes text ts ≡ []
 unfolding lexemes
@@ -19,9 +19,9 @@ unfolding lexemes
 length-lexemes text [] = refl
 length-lexemes text (t ∷ ts) = ap (λ n. suc n) (length-lexemes text ts)
 
-pub head-lexemes : (text : List ℕ) (ts : List Token) (ls : List Lexeme) (d : Token) → 0 < length ls → lexemes text ts ≡ ls → head ls ≡ lexeme text (get_or ts 0 d)
-head-lexemes text ts ls d h is =
-    let some : 0 < length ts = omega (arith, length-lexemes text ts, ap length is) in ap head (sym is ∙ lexemes-cons text ts d some)
+pub head_lexeme-lexemes : (text : List ℕ) (ts : List Token) (ls : List Lexeme) (d : Token) → 0 < length ls → lexemes text ts ≡ ls → head_lexeme ls ≡ lexeme text (get_or ts 0 d)
+head_lexeme-lexemes text ts ls d h is =
+    let some : 0 < length ts = omega (arith, length-lexemes text ts, ap length is) in ap head_lexeme (sym is ∙ lexemes-cons text ts d some)
 
 pub lexemes-tail : (text : List ℕ) (ts : List Token) (ls : List Lexeme) → lexemes text ts ≡ ls → lexemes text (drop 1 ts) ≡ tail ls
 unfolding lexemes

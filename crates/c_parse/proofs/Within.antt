@@ -2,7 +2,7 @@
 use Rattle.std.proofs.Common.{ℕ, zero, suc, ◌+◌, ◌<◌, ◌≤◌, List, [], ◌∷◌, length, get_or, arith}
 use Rattle.std.specs.Prelude.{All}
 use Rattle.c_tree.specs.declared.token.Token.{Token}
-use Rattle.c_tree.specs.Places.{AreInOrder}
+use Rattle.c_tree.specs.Tokens.Places.{AreInOrder}
 use Rattle.c_parse.specs.Lexeme.{IsWithin}
 
 -- so many tokens take as many bytes at least

@@ -4,14 +4,14 @@
 ghost use Rattle.std.specs.Prelude.{◌≡◌, ◌<◌};
 ghost use Rattle.parse_laws.specs.Parser.{another, another_value, phrases};
 ghost use Rattle.parse_laws.specs.ReadDecl as spec;
-ghost use Rattle.parse_laws.specs.ReadExpr.{expr};
+ghost use Rattle.parse_laws.specs.ReadExpr.{expr_phrase};
 ghost use Rattle.parse_laws.specs.ReadSimple as simple;
 ghost use Rattle.c_parse.specs.Reads.{Reads};
 
 use crate::expr::unboxed;
 use crate::reader::Reader;
 use c_tree::{RawExpr, RawShape, RawStmt, RawTarget, Symbol, Ty};
-use parse_laws::Fault;
+use parse_laws::ReadingFault;
 use sqlite_items::{Boxed, Items};
 
 impl<'a> Reader<'a> {
@@ -24,10 +24,10 @@ impl<'a> Reader<'a> {
     }
 
     /// The values of a list, up to its `}` or to a comma before it.
-    #[tactic(auto, using(parse_laws::proofs::Lists::list_turns))]
-    fn value_list(&mut self, room: usize) -> Result<Items<RawExpr>, Fault>
+    #[tactic(auto, using(parse_laws::proofs::Reading::Lists::list_turns))]
+    fn value_list(&mut self, room: usize) -> Result<Items<RawExpr>, ReadingFault>
         requires { room < 999 }
-        ensures { Reads (λ x. x) (phrases another_value (expr room 0) self.old) result self.new }
+        ensures { Reads (λ x. x) (phrases another_value (expr_phrase room 0) self.old) result self.new }
     {
         let mut list = Items::new(self.alloc());
         for _turn in 0..self.left() {
@@ -42,10 +42,10 @@ impl<'a> Reader<'a> {
     }
 
     /// The length of an array, which may be missing.
-    #[tactic(auto, unfolding(parse_laws::specs::ReadDecl::size))]
-    fn size(&mut self, room: usize) -> Result<Option<Boxed<RawExpr>>, Fault>
+    #[tactic(auto, unfolding(parse_laws::specs::ReadDecl::length_phrase))]
+    fn size(&mut self, room: usize) -> Result<Option<Boxed<RawExpr>>, ReadingFault>
         requires { room < 999 }
-        ensures { Reads (λ x. x) (spec.size room self.old) result self.new }
+        ensures { Reads (λ x. x) (spec.length_phrase room self.old) result self.new }
     {
         if self.sees_second(Symbol::RightBracket) {
             self.expect(Symbol::LeftBracket)?;
@@ -58,7 +58,7 @@ impl<'a> Reader<'a> {
 
     /// The list of an array.
     #[tactic(auto, unfolding(parse_laws::specs::ReadDecl::values))]
-    fn values(&mut self, room: usize) -> Result<Items<RawExpr>, Fault>
+    fn values(&mut self, room: usize) -> Result<Items<RawExpr>, ReadingFault>
         requires { room < 999 }
         ensures { Reads (λ x. x) (spec.values room self.old) result self.new }
     {
@@ -70,10 +70,10 @@ impl<'a> Reader<'a> {
     }
 
     /// The list of an array, if there is one.
-    #[tactic(auto, unfolding(parse_laws::specs::ReadDecl::filled))]
-    fn filled(&mut self, room: usize) -> Result<Option<Items<RawExpr>>, Fault>
+    #[tactic(auto, unfolding(parse_laws::specs::ReadDecl::initialiser_list))]
+    fn filled(&mut self, room: usize) -> Result<Option<Items<RawExpr>>, ReadingFault>
         requires { room < 999 }
-        ensures { Reads (λ x. x) (spec.filled room self.old) result self.new }
+        ensures { Reads (λ x. x) (spec.initialiser_list room self.old) result self.new }
     {
         if !self.sees(Symbol::Assign) {
             return Ok(None);
@@ -84,10 +84,10 @@ impl<'a> Reader<'a> {
     }
 
     /// The initialiser of a scalar, if there is one.
-    #[tactic(auto, unfolding(parse_laws::specs::ReadDecl::initialised))]
-    fn initialised(&mut self, room: usize) -> Result<Option<RawExpr>, Fault>
+    #[tactic(auto, unfolding(parse_laws::specs::ReadDecl::initial_value))]
+    fn initialised(&mut self, room: usize) -> Result<Option<RawExpr>, ReadingFault>
         requires { room < 999 }
-        ensures { Reads (λ x. x) (spec.initialised room self.old) result self.new }
+        ensures { Reads (λ x. x) (spec.initial_value room self.old) result self.new }
     {
         if !self.sees(Symbol::Assign) {
             return Ok(None);
@@ -98,10 +98,10 @@ impl<'a> Reader<'a> {
     }
 
     /// What follows the name of a declarator.
-    #[tactic(auto, unfolding(parse_laws::specs::ReadDecl::shaped))]
-    pub(crate) fn shaped(&mut self, room: usize) -> Result<RawShape, Fault>
+    #[tactic(auto, unfolding(parse_laws::specs::ReadDecl::shape_phrase))]
+    pub(crate) fn shaped(&mut self, room: usize) -> Result<RawShape, ReadingFault>
         requires { room < 999 }
-        ensures { Reads (λ x. x) (spec.shaped room self.old) result self.new }
+        ensures { Reads (λ x. x) (spec.shape_phrase room self.old) result self.new }
     {
         if self.sees(Symbol::LeftBracket) {
             let size = self.size(room)?;
@@ -114,10 +114,10 @@ impl<'a> Reader<'a> {
     }
 
     /// A declarator of a local variable.
-    #[tactic(auto, unfolding(parse_laws::specs::ReadDecl::declared, parse_laws::specs::ReadDecl::declarator))]
-    fn declared(&mut self, room: usize, constant: bool, ty: Ty) -> Result<RawStmt, Fault>
+    #[tactic(auto, unfolding(parse_laws::specs::ReadDecl::local_declarator, parse_laws::specs::ReadDecl::declarator))]
+    fn declared(&mut self, room: usize, constant: bool, ty: Ty) -> Result<RawStmt, ReadingFault>
         requires { room < 999 }
-        ensures { Reads (λ x. x) (spec.declared room constant ty self.old) result self.new }
+        ensures { Reads (λ x. x) (spec.local_declarator room constant ty self.old) result self.new }
     {
         let spot = self.name()?;
         let shape = self.shaped(room)?;
@@ -125,15 +125,15 @@ impl<'a> Reader<'a> {
     }
 
     /// Declarators with commas between them. Each takes a token, so there are enough turns.
-    #[tactic(auto, using(parse_laws::proofs::Lists::list_turns))]
+    #[tactic(auto, using(parse_laws::proofs::Reading::Lists::list_turns))]
     fn declared_list(
         &mut self,
         room: usize,
         constant: bool,
         ty: Ty,
-    ) -> Result<Items<RawStmt>, Fault>
+    ) -> Result<Items<RawStmt>, ReadingFault>
         requires { room < 999 }
-        ensures { Reads (λ x. x) (phrases another (spec.declared room constant ty) self.old) result self.new }
+        ensures { Reads (λ x. x) (phrases another (spec.local_declarator room constant ty) self.old) result self.new }
     {
         let mut list = Items::new(self.alloc());
         for _turn in 0..self.left() {
@@ -148,7 +148,12 @@ impl<'a> Reader<'a> {
     }
 
     #[tactic(auto, unfolding(parse_laws::specs::ReadDecl::declarators))]
-    fn declarators(&mut self, room: usize, constant: bool, ty: Ty) -> Result<Items<RawStmt>, Fault>
+    fn declarators(
+        &mut self,
+        room: usize,
+        constant: bool,
+        ty: Ty,
+    ) -> Result<Items<RawStmt>, ReadingFault>
         requires { room < 999 }
         ensures { Reads (λ x. x) (spec.declarators room constant ty self.old) result self.new }
     {
@@ -164,7 +169,7 @@ impl<'a> Reader<'a> {
         room: usize,
         constant: bool,
         ty: Ty,
-    ) -> Result<Items<RawStmt>, Fault>
+    ) -> Result<Items<RawStmt>, ReadingFault>
         requires { room < 999 }
         ensures { Reads (λ x. x) (simple.call_into room (RawTarget.Declare constant ty) self.old) result self.new }
     {
@@ -174,10 +179,10 @@ impl<'a> Reader<'a> {
     }
 
     /// A declaration of local variables, or of one that takes the result of a call.
-    #[tactic(auto, unfolding(parse_laws::specs::ReadDecl::declaration))]
-    pub(crate) fn declaration(&mut self, room: usize) -> Result<Items<RawStmt>, Fault>
+    #[tactic(auto, unfolding(parse_laws::specs::ReadDecl::declaration_phrase))]
+    pub(crate) fn declaration(&mut self, room: usize) -> Result<Items<RawStmt>, ReadingFault>
         requires { room < 999 }
-        ensures { Reads (λ x. x) (spec.declaration room self.old) result self.new }
+        ensures { Reads (λ x. x) (spec.declaration_phrase room self.old) result self.new }
     {
         let constant = self.optional(Symbol::Const);
         let ty = self.type_name()?;

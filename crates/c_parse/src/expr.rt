@@ -12,7 +12,7 @@ use c_symbols::{
     scalar, unary, unary_operator,
 };
 use c_tree::{BinOp, RawExpr, Symbol, UnOp};
-use parse_laws::{Fault, Next};
+use parse_laws::{Next, ReadingFault};
 use sqlite_items::Boxed;
 
 /// The level of the unary operators and casts.
@@ -31,11 +31,11 @@ pub(crate) fn unboxed(value: Option<Boxed<RawExpr>>) -> Option<RawExpr>
 impl<'a> Reader<'a> {
     /// An expression of the level `least` or a tighter one.
     #[cycle(expr)]
-    #[tactic(auto, using(parse_laws::proofs::Turns::turns))]
-    pub(crate) fn expr(&mut self, room: usize, least: u8) -> Result<MeasuredExpr, Fault>
+    #[tactic(auto, using(parse_laws::proofs::Reading::Turns::turns))]
+    pub(crate) fn expr(&mut self, room: usize, least: u8) -> Result<MeasuredExpr, ReadingFault>
         requires { room < 1000 }
         ensures low { IfOk result (λ t. t.height ≤ room) }
-        ensures reads { Reads (λ t. t.expr) (spec.expr room least self.old) result self.new }
+        ensures reads { Reads (λ t. t.expr) (spec.expr_phrase room least self.old) result self.new }
     {
         if room == 0 {
             return Err(self.too_deep());
@@ -46,13 +46,19 @@ impl<'a> Reader<'a> {
 
     /// Goes on from the left operand `first` with the operators of the level `least` or a tighter one.
     #[cycle(expr)]
-    #[tactic(auto, using(parse_laws::proofs::Turns::turns))]
-    fn climb(&mut self, room: usize, least: u8, first: MeasuredExpr) -> Result<MeasuredExpr, Fault>
+    #[tactic(auto, using(parse_laws::proofs::Reading::Turns::turns))]
+    fn climb(
+        &mut self,
+        room: usize,
+        least: u8,
+        first: MeasuredExpr,
+    ) -> Result<MeasuredExpr, ReadingFault>
         requires some { 0 < room }
         requires few { room < 1000 }
         requires low { first.height ≤ room }
         ensures low { IfOk result (λ t. t.height ≤ room) }
-        ensures reads { Reads (λ t. t.expr) (spec.climb (spec.expr (room - 1)) room room least first.expr self.old)
+        ensures reads { Reads (λ t. t.expr) (spec.climb (spec.expr_phrase (room - 1)) room room least first.expr
+            self.old)
             result self.new }
     {
         let mut left = first;
@@ -75,18 +81,19 @@ impl<'a> Reader<'a> {
 
     /// The operator that comes next, and its right operand.
     #[cycle(expr)]
-    #[tactic(auto, using(parse_laws::proofs::Turns::turns), unfolding(parse_laws::specs::ReadExpr::operation))]
+    #[tactic(auto, using(parse_laws::proofs::Reading::Turns::turns), unfolding(parse_laws::specs::ReadExpr::operation))]
     fn operation(
         &mut self,
         room: usize,
         op: BinOp,
         left: MeasuredExpr,
-    ) -> Result<MeasuredExpr, Fault>
+    ) -> Result<MeasuredExpr, ReadingFault>
         requires some { 0 < length self.old }
         requires few { room < 999 }
         requires low { left.height ≤ room }
         ensures low { IfOk result (λ t. t.height ≤ room + 1) }
-        ensures reads { Reads (λ t. t.expr) (spec.operation (spec.expr room) op left.expr self.old) result self.new }
+        ensures reads { Reads (λ t. t.expr) (spec.operation (spec.expr_phrase room) op left.expr self.old) result
+            self.new }
     {
         self.take();
         let right = self.expr(room, level(op) + 1)?;
@@ -96,11 +103,12 @@ impl<'a> Reader<'a> {
     /// The two expressions that a `?` chooses from.
     #[cycle(expr)]
     #[tactic(auto, unfolding(parse_laws::specs::ReadExpr::choices))]
-    fn choices(&mut self, room: usize) -> Result<(MeasuredExpr, MeasuredExpr), Fault>
+    fn choices(&mut self, room: usize) -> Result<(MeasuredExpr, MeasuredExpr), ReadingFault>
         requires { room < 999 }
         ensures first { IfOk result (λ p. p.0.height ≤ room) }
         ensures second { IfOk result (λ p. p.1.height ≤ room) }
-        ensures reads { Reads (λ p. (p.0.expr, p.1.expr)) (spec.choices (spec.expr room) self.old) result self.new }
+        ensures reads { Reads (λ p. (p.0.expr, p.1.expr)) (spec.choices (spec.expr_phrase room) self.old) result
+            self.new }
     {
         let a = self.expr_before(room, Symbol::Colon)?;
         let b = self.expr(room, 0)?;
@@ -110,12 +118,13 @@ impl<'a> Reader<'a> {
     /// The `?` that comes next, and the two expressions that it chooses from.
     #[cycle(expr)]
     #[tactic(auto, unfolding(parse_laws::specs::ReadExpr::conditional))]
-    fn conditional(&mut self, room: usize, left: MeasuredExpr) -> Result<MeasuredExpr, Fault>
+    fn conditional(&mut self, room: usize, left: MeasuredExpr) -> Result<MeasuredExpr, ReadingFault>
         requires some { 0 < length self.old }
         requires few { room < 999 }
         requires low { left.height ≤ room }
         ensures low { IfOk result (λ t. t.height ≤ room + 1) }
-        ensures reads { Reads (λ t. t.expr) (spec.conditional (spec.expr room) left.expr self.old) result self.new }
+        ensures reads { Reads (λ t. t.expr) (spec.conditional (spec.expr_phrase room) left.expr self.old) result
+            self.new }
     {
         self.take();
         let (a, b) = self.choices(room)?;
@@ -123,11 +132,11 @@ impl<'a> Reader<'a> {
     }
 
     #[cycle(expr)]
-    #[tactic(auto, using(parse_laws::proofs::Turns::turns), unfolding(parse_laws::specs::ReadExpr::operand))]
-    fn operand(&mut self, room: usize) -> Result<MeasuredExpr, Fault>
+    #[tactic(auto, using(parse_laws::proofs::Reading::Turns::turns), unfolding(parse_laws::specs::ReadExpr::operand))]
+    fn operand(&mut self, room: usize) -> Result<MeasuredExpr, ReadingFault>
         requires { room < 999 }
         ensures low { IfOk result (λ t. t.height ≤ room + 1) }
-        ensures reads { Reads (λ t. t.expr) (spec.operand (spec.expr room) self.old) result self.new }
+        ensures reads { Reads (λ t. t.expr) (spec.operand (spec.expr_phrase room) self.old) result self.new }
     {
         match self.peek() {
             None => Err(self.refuse()),
@@ -146,12 +155,12 @@ impl<'a> Reader<'a> {
 
     /// The unary operator that comes next, and its operand.
     #[cycle(expr)]
-    #[tactic(auto, unfolding(parse_laws::specs::ReadExpr::unary))]
-    fn unary(&mut self, room: usize, op: UnOp) -> Result<MeasuredExpr, Fault>
+    #[tactic(auto, unfolding(parse_laws::specs::ReadExpr::unary_phrase))]
+    fn unary(&mut self, room: usize, op: UnOp) -> Result<MeasuredExpr, ReadingFault>
         requires some { 0 < length self.old }
         requires few { room < 999 }
         ensures low { IfOk result (λ t. t.height ≤ room + 1) }
-        ensures reads { Reads (λ t. t.expr) (spec.unary (spec.expr room) op self.old) result self.new }
+        ensures reads { Reads (λ t. t.expr) (spec.unary_phrase (spec.expr_phrase room) op self.old) result self.new }
     {
         let at = self.place();
         self.take();
@@ -161,11 +170,12 @@ impl<'a> Reader<'a> {
 
     /// A scalar, or an element of an array.
     #[cycle(expr)]
-    #[tactic(auto, unfolding(parse_laws::specs::ReadExpr::variable, parse_laws::specs::ReadExpr::named))]
-    fn variable(&mut self, room: usize) -> Result<MeasuredExpr, Fault>
+    #[tactic(auto, unfolding(parse_laws::specs::ReadExpr::variable_phrase,
+        parse_laws::specs::ReadExpr::element_or_name))]
+    fn variable(&mut self, room: usize) -> Result<MeasuredExpr, ReadingFault>
         requires { room < 999 }
         ensures low { IfOk result (λ t. t.height ≤ room + 1) }
-        ensures reads { Reads (λ t. t.expr) (spec.variable (spec.expr room) self.old) result self.new }
+        ensures reads { Reads (λ t. t.expr) (spec.variable_phrase (spec.expr_phrase room) self.old) result self.new }
     {
         let spot = self.name()?;
         if !self.sees(Symbol::LeftBracket) {
@@ -178,10 +188,14 @@ impl<'a> Reader<'a> {
     /// An expression, and the symbol after it.
     #[cycle(expr)]
     #[tactic(auto, unfolding(parse_laws::specs::ReadExpr::expr_before))]
-    pub(crate) fn expr_before(&mut self, room: usize, mark: Symbol) -> Result<MeasuredExpr, Fault>
+    pub(crate) fn expr_before(
+        &mut self,
+        room: usize,
+        mark: Symbol,
+    ) -> Result<MeasuredExpr, ReadingFault>
         requires { room < 999 }
         ensures low { IfOk result (λ t. t.height ≤ room) }
-        ensures reads { Reads (λ t. t.expr) (spec.expr_before (spec.expr room) mark self.old) result self.new }
+        ensures reads { Reads (λ t. t.expr) (spec.expr_before (spec.expr_phrase room) mark self.old) result self.new }
     {
         let a = self.expr(room, 0)?;
         self.expect(mark)?;
@@ -190,11 +204,11 @@ impl<'a> Reader<'a> {
 
     /// The brackets after a name, and what stands in them.
     #[cycle(expr)]
-    #[tactic(auto, unfolding(parse_laws::specs::ReadExpr::index))]
-    pub(crate) fn index(&mut self, room: usize) -> Result<MeasuredExpr, Fault>
+    #[tactic(auto, unfolding(parse_laws::specs::ReadExpr::index_phrase))]
+    pub(crate) fn index(&mut self, room: usize) -> Result<MeasuredExpr, ReadingFault>
         requires { room < 999 }
         ensures low { IfOk result (λ t. t.height ≤ room) }
-        ensures reads { Reads (λ t. t.expr) (spec.index (spec.expr room) self.old) result self.new }
+        ensures reads { Reads (λ t. t.expr) (spec.index_phrase (spec.expr_phrase room) self.old) result self.new }
     {
         self.expect(Symbol::LeftBracket)?;
         self.expr_before(room, Symbol::RightBracket)
@@ -202,11 +216,12 @@ impl<'a> Reader<'a> {
 
     /// A cast, or an expression in parentheses.
     #[cycle(expr)]
-    #[tactic(auto, unfolding(parse_laws::specs::ReadExpr::parenthesised, parse_laws::specs::ReadExpr::opened))]
-    fn parenthesised(&mut self, room: usize) -> Result<MeasuredExpr, Fault>
+    #[tactic(auto, unfolding(parse_laws::specs::ReadExpr::parenthesis_phrase,
+        parse_laws::specs::ReadExpr::cast_or_parentheses))]
+    fn parenthesised(&mut self, room: usize) -> Result<MeasuredExpr, ReadingFault>
         requires { room < 999 }
         ensures low { IfOk result (λ t. t.height ≤ room + 1) }
-        ensures reads { Reads (λ t. t.expr) (spec.parenthesised (spec.expr room) self.old) result self.new }
+        ensures reads { Reads (λ t. t.expr) (spec.parenthesis_phrase (spec.expr_phrase room) self.old) result self.new }
     {
         let at = self.expect(Symbol::LeftParen)?;
         if self.begins_type() {
@@ -219,10 +234,10 @@ impl<'a> Reader<'a> {
     /// What stands after the `(` of a cast, whose place is `at`.
     #[cycle(expr)]
     #[tactic(auto, unfolding(parse_laws::specs::ReadExpr::cast))]
-    fn cast(&mut self, room: usize, at: u32) -> Result<MeasuredExpr, Fault>
+    fn cast(&mut self, room: usize, at: u32) -> Result<MeasuredExpr, ReadingFault>
         requires { room < 999 }
         ensures low { IfOk result (λ t. t.height ≤ room + 1) }
-        ensures reads { Reads (λ t. t.expr) (spec.cast (spec.expr room) at self.old) result self.new }
+        ensures reads { Reads (λ t. t.expr) (spec.cast (spec.expr_phrase room) at self.old) result self.new }
     {
         let ty = self.type_name()?;
         self.expect(Symbol::RightParen)?;
@@ -232,11 +247,12 @@ impl<'a> Reader<'a> {
 
     /// What stands after the `(` of an expression in parentheses, whose place is `at`.
     #[cycle(expr)]
-    #[tactic(auto, unfolding(parse_laws::specs::ReadExpr::paren))]
-    fn paren(&mut self, room: usize, at: u32) -> Result<MeasuredExpr, Fault>
+    #[tactic(auto, unfolding(parse_laws::specs::ReadExpr::expr_in_parentheses))]
+    fn paren(&mut self, room: usize, at: u32) -> Result<MeasuredExpr, ReadingFault>
         requires { room < 999 }
         ensures low { IfOk result (λ t. t.height ≤ room + 1) }
-        ensures reads { Reads (λ t. t.expr) (spec.paren (spec.expr room) at self.old) result self.new }
+        ensures reads { Reads (λ t. t.expr) (spec.expr_in_parentheses (spec.expr_phrase room) at self.old) result
+            self.new }
     {
         let a = self.expr_before(room, Symbol::RightParen)?;
         parenthesised(self.alloc(), at, a)

@@ -3,16 +3,16 @@
 ghost use Rattle.std.specs.Prelude.{◌≡◌, ◌<◌, ◌≤◌, ◌^◌, ℕ, List, length, All, IfOk, IfErr};
 ghost use Rattle.c_tree.specs.declared.token.Token.{Token};
 ghost use Rattle.c_tree.specs.declared.unit.Unit.{Unit as Tree};
-ghost use Rattle.c_tree.specs.Heights.{unit_height};
-ghost use Rattle.c_tree.specs.Places.{AreInOrder};
-ghost use Rattle.c_tree.specs.Spelling.{Spells};
+ghost use Rattle.c_tree.specs.Grammar.Heights.{unit_height};
+ghost use Rattle.c_tree.specs.Tokens.Places.{AreInOrder};
+ghost use Rattle.c_tree.specs.Grammar.Spelling.{Spells};
 ghost use Rattle.c_parse.specs.Answers.{Gives, IsPlace, IsRefusal};
 ghost use Rattle.c_parse.specs.Lexeme.{IsWithin};
 
 use crate::fault::ParseFault;
 use crate::reader::Reader;
 use c_tree::{Token, Unit};
-use parse_laws::{Fault, law};
+use parse_laws::{ReadingFault, law};
 use std::alloc::Global;
 
 /// The greatest height of a tree that is read.
@@ -30,14 +30,14 @@ fn place(text: &[u8], tokens: &[Token], left: usize) -> u32
 }
 
 /// The refusal that tells the fault.
-fn refusal(text: &[u8], tokens: &[Token], fault: Fault) -> ParseFault
+fn refusal(text: &[u8], tokens: &[Token], fault: ReadingFault) -> ParseFault
     requires { length text.now < 2 ^ 32 }
     ensures place { IsRefusal text.now tokens.now result }
-    ensures memory { fault ≡ Fault.NoMemory → result ≡ ParseFault.NoMemory }
+    ensures memory { fault ≡ ReadingFault.NoMemory → result ≡ ParseFault.NoMemory }
 {
     match fault {
-        Fault::NoMemory => ParseFault::NoMemory,
-        Fault::Syntax(left) | Fault::Depth(left) => ParseFault::Syntax {
+        ReadingFault::NoMemory => ParseFault::NoMemory,
+        ReadingFault::Syntax(left) | ReadingFault::Depth(left) => ParseFault::Syntax {
             at: place(text, tokens, left),
         },
     }

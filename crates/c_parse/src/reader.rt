@@ -1,17 +1,17 @@
 //! A cursor over the tokens of a text.
 
 ghost use Rattle.std.specs.Prelude.{◌≡◌, ◌<◌, true, length, All, IfOk, Ok, Err};
-ghost use Rattle.c_tree.specs.Heights.{height};
-ghost use Rattle.c_tree.specs.Symbols.{lexeme, lexemes, spot};
+ghost use Rattle.c_tree.specs.Grammar.Heights.{height};
+ghost use Rattle.c_tree.specs.Tokens.Symbols.{lexeme, lexemes, spot};
 ghost use Rattle.parse_laws.specs.Going as reading;
 ghost use Rattle.c_parse.specs.Lexeme.{IsWithin};
-ghost use Rattle.parse_laws.specs.Lexeme.{constant, loop_bound};
+ghost use Rattle.parse_laws.specs.Lexeme.{constant_expr, raw_bound};
 ghost use Rattle.parse_laws.specs.Parser as spec;
 ghost use Rattle.c_parse.specs.Reads.{Reads};
 
 use c_symbols::{bound_of, constant_of, next_of, symbol_of};
 use c_tree::{Name, RawBound, RawExpr, Spot, Symbol, Token, Ty};
-use parse_laws::{Fault, Next};
+use parse_laws::{Next, ReadingFault};
 use std::alloc::{AllocError, Global};
 use std::marker::Model;
 
@@ -25,7 +25,7 @@ pub(crate) struct Reader<'a> {
 
 impl<'a> Model for Reader<'a> {
     ghost use Rattle.std.specs.Prelude.{List, All};
-    ghost use Rattle.c_tree.specs.Symbols.{Lexeme, lexemes};
+    ghost use Rattle.c_tree.specs.Tokens.Symbols.{Lexeme, lexemes};
     ghost use Rattle.parse_laws.specs.Going as reading;
     ghost use Rattle.c_parse.specs.Lexeme.{IsWithin};
 
@@ -59,7 +59,7 @@ impl<'a> Reader<'a> {
     }
 
     /// What the next token is.
-    #[tactic(auto, using(crate::proofs::Tokens::front), unfolding(c_tree::specs::Symbols::lexeme))]
+    #[tactic(auto, using(crate::proofs::Tokens::front), unfolding(c_tree::specs::Tokens::Symbols::lexeme))]
     pub(crate) fn peek(&self) -> Option<Symbol>
         ensures { result ≡ spec.first self.now }
     {
@@ -73,7 +73,7 @@ impl<'a> Reader<'a> {
     }
 
     /// What the token after the next one is.
-    #[tactic(auto, using(crate::proofs::Tokens::front), unfolding(c_tree::specs::Symbols::lexeme))]
+    #[tactic(auto, using(crate::proofs::Tokens::front), unfolding(c_tree::specs::Tokens::Symbols::lexeme))]
     fn peek_second(&self) -> Option<Symbol>
         ensures { result ≡ spec.first (spec.tail self.now) }
     {
@@ -87,19 +87,19 @@ impl<'a> Reader<'a> {
     }
 
     /// The place of the next token.
-    #[tactic(auto, using(crate::proofs::Tokens::front), unfolding(c_tree::specs::Symbols::lexeme))]
+    #[tactic(auto, using(crate::proofs::Tokens::front), unfolding(c_tree::specs::Tokens::Symbols::lexeme))]
     pub(crate) fn place(&self) -> u32
         requires { 0 < length self.now }
-        ensures { result ≡ (spec.head self.now).at }
+        ensures { result ≡ (spec.head_lexeme self.now).at }
     {
         self.rest[0].from
     }
 
     /// The next token as a name.
-    #[tactic(auto, using(crate::proofs::Tokens::front), unfolding(c_tree::specs::Symbols::lexeme))]
+    #[tactic(auto, using(crate::proofs::Tokens::front), unfolding(c_tree::specs::Tokens::Symbols::lexeme))]
     fn spot(&self) -> Result<Spot, AllocError>
         requires { 0 < length self.now }
-        ensures { IfOk result (λ x. x ≡ spot (spec.head self.now)) }
+        ensures { IfOk result (λ x. x ≡ spot (spec.head_lexeme self.now)) }
     {
         let first = &self.rest[0];
         let name = Name::from_slice(
@@ -113,11 +113,11 @@ impl<'a> Reader<'a> {
     }
 
     /// The next token, an integer constant.
-    #[tactic(auto, using(crate::proofs::Tokens::front, parse_laws::proofs::Layers::height_layers))]
+    #[tactic(auto, using(crate::proofs::Tokens::front, parse_laws::proofs::Reading::Layers::height_layers))]
     fn constant(&self) -> RawExpr
         requires some { 0 < length self.now }
         requires number { spec.sees Symbol.Number self.now ≡ true }
-        ensures value { result ≡ constant (spec.head self.now) }
+        ensures value { result ≡ constant_expr (spec.head_lexeme self.now) }
         ensures low { height result ≡ 1 }
     {
         let first = self.rest[0];
@@ -130,7 +130,7 @@ impl<'a> Reader<'a> {
     fn loop_bound(&self) -> RawBound
         requires some { 0 < length self.now }
         requires bound { spec.sees Symbol.Bound self.now ≡ true }
-        ensures { result ≡ loop_bound (spec.head self.now) }
+        ensures { result ≡ raw_bound (spec.head_lexeme self.now) }
     {
         let first = self.rest[0];
         RawBound {
@@ -140,7 +140,7 @@ impl<'a> Reader<'a> {
     }
 
     /// Goes past the next token.
-    #[tactic(auto, using(crate::proofs::Tokens::front), unfolding(c_tree::specs::Symbols::lexeme))]
+    #[tactic(auto, using(crate::proofs::Tokens::front), unfolding(c_tree::specs::Tokens::Symbols::lexeme))]
     pub(crate) fn take(&mut self)
         requires { 0 < length self.old }
         ensures { self.new ≡ spec.tail self.old }
@@ -171,22 +171,23 @@ impl<'a> Reader<'a> {
     }
 
     /// The fault at the next token.
-    pub(crate) fn refuse(&self) -> Fault
-        ensures { result ≡ Fault.Syntax (length self.now) }
+    pub(crate) fn refuse(&self) -> ReadingFault
+        ensures { result ≡ ReadingFault.Syntax (length self.now) }
     {
-        Fault::Syntax(self.left())
+        ReadingFault::Syntax(self.left())
     }
 
     /// The fault where the next token would make the tree too high.
-    pub(crate) fn too_deep(&self) -> Fault
-        ensures { result ≡ Fault.Depth (length self.now) }
+    pub(crate) fn too_deep(&self) -> ReadingFault
+        ensures { result ≡ ReadingFault.Depth (length self.now) }
     {
-        Fault::Depth(self.left())
+        ReadingFault::Depth(self.left())
     }
 
     /// Reads the symbol, and gives its place.
-    #[tactic(auto, using(parse_laws::proofs::Steps::seeing), unfolding(parse_laws::specs::Parser::token))]
-    pub(crate) fn expect(&mut self, wanted: Symbol) -> Result<u32, Fault>
+    #[tactic(auto, using(parse_laws::proofs::Reading::Steps::seeing),
+        unfolding(parse_laws::specs::Parser::symbol_phrase))]
+    pub(crate) fn expect(&mut self, wanted: Symbol) -> Result<u32, ReadingFault>
         ensures { Reads (λ x. x) (spec.expect wanted self.old) result self.new }
     {
         if !self.sees(wanted) {
@@ -198,8 +199,9 @@ impl<'a> Reader<'a> {
     }
 
     /// Reads a name.
-    #[tactic(auto, using(parse_laws::proofs::Steps::seeing), unfolding(parse_laws::specs::Parser::token))]
-    pub(crate) fn name(&mut self) -> Result<Spot, Fault>
+    #[tactic(auto, using(parse_laws::proofs::Reading::Steps::seeing),
+        unfolding(parse_laws::specs::Parser::symbol_phrase))]
+    pub(crate) fn name(&mut self) -> Result<Spot, ReadingFault>
         ensures { Reads (λ x. x) (spec.name self.old) result self.new }
     {
         if !self.sees(Symbol::Name) {
@@ -211,10 +213,11 @@ impl<'a> Reader<'a> {
     }
 
     /// Reads an integer constant.
-    #[tactic(auto, using(parse_laws::proofs::Steps::seeing), unfolding(parse_laws::specs::Parser::token))]
-    pub(crate) fn number(&mut self) -> Result<RawExpr, Fault>
+    #[tactic(auto, using(parse_laws::proofs::Reading::Steps::seeing),
+        unfolding(parse_laws::specs::Parser::symbol_phrase))]
+    pub(crate) fn number(&mut self) -> Result<RawExpr, ReadingFault>
         ensures low { IfOk result (λ a. height a ≡ 1) }
-        ensures reads { Reads (λ x. x) (spec.number self.old) result self.new }
+        ensures reads { Reads (λ x. x) (spec.number_phrase self.old) result self.new }
     {
         if !self.sees(Symbol::Number) {
             return Err(self.refuse());
@@ -225,8 +228,9 @@ impl<'a> Reader<'a> {
     }
 
     /// Reads a loop bound.
-    #[tactic(auto, using(parse_laws::proofs::Steps::seeing), unfolding(parse_laws::specs::Parser::token))]
-    pub(crate) fn bound(&mut self) -> Result<RawBound, Fault>
+    #[tactic(auto, using(parse_laws::proofs::Reading::Steps::seeing),
+        unfolding(parse_laws::specs::Parser::symbol_phrase))]
+    pub(crate) fn bound(&mut self) -> Result<RawBound, ReadingFault>
         ensures { Reads (λ x. x) (spec.bound self.old) result self.new }
     {
         if !self.sees(Symbol::Bound) {
@@ -238,9 +242,10 @@ impl<'a> Reader<'a> {
     }
 
     /// Reads the symbol if it comes next, and tells whether it did.
-    #[tactic(auto, using(parse_laws::proofs::Steps::seeing), unfolding(parse_laws::specs::Parser::optional))]
+    #[tactic(auto, using(parse_laws::proofs::Reading::Steps::seeing),
+        unfolding(parse_laws::specs::Parser::optional_word))]
     pub(crate) fn optional(&mut self, word: Symbol) -> bool
-        ensures { spec.optional word self.old ≡ Ok (result, self.new) }
+        ensures { spec.optional_word word self.old ≡ Ok (result, self.new) }
     {
         if !self.sees(word) {
             return false;
@@ -262,7 +267,7 @@ impl<'a> Reader<'a> {
 
     /// Reads a word of a type, after which an `int` may stand.
     #[tactic(auto, unfolding(parse_laws::specs::Parser::with_int))]
-    fn with_int(&mut self, word: Symbol, ty: Ty) -> Result<Ty, Fault>
+    fn with_int(&mut self, word: Symbol, ty: Ty) -> Result<Ty, ReadingFault>
         ensures { Reads (λ x. x) (spec.with_int word ty self.old) result self.new }
     {
         self.expect(word)?;
@@ -272,7 +277,7 @@ impl<'a> Reader<'a> {
 
     /// Reads the name of a type.
     #[tactic(auto, unfolding(parse_laws::specs::Parser::type_name))]
-    pub(crate) fn type_name(&mut self) -> Result<Ty, Fault>
+    pub(crate) fn type_name(&mut self) -> Result<Ty, ReadingFault>
         ensures { Reads (λ x. x) (spec.type_name self.old) result self.new }
     {
         match self.peek() {
@@ -287,9 +292,9 @@ impl<'a> Reader<'a> {
     }
 
     /// How an expression goes on with the next token.
-    #[tactic(auto, unfolding(parse_laws::specs::Going::next))]
+    #[tactic(auto, unfolding(parse_laws::specs::Going::next_seen))]
     pub(crate) fn next(&self) -> Next
-        ensures { result ≡ reading.next self.now }
+        ensures { result ≡ reading.next_seen self.now }
     {
         next_of(self.peek())
     }
@@ -313,7 +318,7 @@ impl<'a> Reader<'a> {
 
 impl<'a> Reader<'a> {
     /// The reader past the next two tokens.
-    #[tactic(auto, using(parse_laws::proofs::StmtTurns::next_symbol))]
+    #[tactic(auto, using(parse_laws::proofs::Reading::StmtTurns::next_symbol))]
     pub(crate) fn past_two(&self) -> Reader<'a>
         requires { 1 < length self.now }
         ensures { result ≡ spec.tail (spec.tail self.now) }

@@ -4,19 +4,19 @@
 
 ghost use Rattle.std.specs.Prelude.{◌≡◌, ◌<◌, [], ◌∷◌, length, Ok};
 ghost use Rattle.parse_laws.specs.Parser.{another, phrases};
-ghost use Rattle.parse_laws.specs.ReadExpr.{expr};
+ghost use Rattle.parse_laws.specs.ReadExpr.{expr_phrase};
 ghost use Rattle.parse_laws.specs.ReadSimple as spec;
 ghost use Rattle.c_parse.specs.Reads.{Reads};
 
 use crate::expr::unboxed;
 use crate::reader::Reader;
 use c_tree::{BinOp, RawExpr, RawPlace, RawStmt, RawTarget, Symbol, Ty};
-use parse_laws::Fault;
+use parse_laws::ReadingFault;
 use sqlite_items::{Boxed, Items};
 use std::alloc::Global;
 
 /// The list of this one statement.
-pub(crate) fn only(alloc: Global, stmt: RawStmt) -> Result<Items<RawStmt>, Fault>
+pub(crate) fn only(alloc: Global, stmt: RawStmt) -> Result<Items<RawStmt>, ReadingFault>
     ensures { Reads (λ x. x) (Ok (stmt ∷ [], [])) result [] }
 {
     let mut list = Items::new(alloc);
@@ -41,7 +41,8 @@ impl<'a> Reader<'a> {
     }
 
     /// Whether a name comes next to which the result of a call is assigned.
-    #[tactic(auto, using(parse_laws::proofs::StmtTurns::next_symbol), unfolding(parse_laws::specs::ReadSimple::begins_call_into))]
+    #[tactic(auto, using(parse_laws::proofs::Reading::StmtTurns::next_symbol),
+        unfolding(parse_laws::specs::ReadSimple::begins_call_into))]
     pub(crate) fn begins_call_into(&self) -> bool
         ensures { result ≡ spec.begins_call_into self.now }
     {
@@ -49,10 +50,10 @@ impl<'a> Reader<'a> {
     }
 
     /// Expressions with commas between them. Each takes a token, so there are enough turns.
-    #[tactic(auto, using(parse_laws::proofs::Lists::list_turns))]
-    fn expressions(&mut self, room: usize) -> Result<Items<RawExpr>, Fault>
+    #[tactic(auto, using(parse_laws::proofs::Reading::Lists::list_turns))]
+    fn expressions(&mut self, room: usize) -> Result<Items<RawExpr>, ReadingFault>
         requires { room < 999 }
-        ensures { Reads (λ x. x) (phrases another (expr room 0) self.old) result self.new }
+        ensures { Reads (λ x. x) (phrases another (expr_phrase room 0) self.old) result self.new }
     {
         let mut list = Items::new(self.alloc());
         for _turn in 0..self.left() {
@@ -67,10 +68,10 @@ impl<'a> Reader<'a> {
     }
 
     /// The arguments of a call.
-    #[tactic(auto, unfolding(parse_laws::specs::ReadSimple::arguments))]
-    fn arguments(&mut self, room: usize) -> Result<Items<RawExpr>, Fault>
+    #[tactic(auto, unfolding(parse_laws::specs::ReadSimple::argument_list))]
+    fn arguments(&mut self, room: usize) -> Result<Items<RawExpr>, ReadingFault>
         requires { room < 999 }
-        ensures { Reads (λ x. x) (spec.arguments room self.old) result self.new }
+        ensures { Reads (λ x. x) (spec.argument_list room self.old) result self.new }
     {
         if self.sees(Symbol::RightParen) {
             return Ok(Items::new(self.alloc()));
@@ -79,10 +80,14 @@ impl<'a> Reader<'a> {
     }
 
     /// A call whose result goes to `to`, with its semicolon.
-    #[tactic(auto, unfolding(parse_laws::specs::ReadSimple::called))]
-    pub(crate) fn called(&mut self, room: usize, to: RawTarget) -> Result<Items<RawStmt>, Fault>
+    #[tactic(auto, unfolding(parse_laws::specs::ReadSimple::call_phrase))]
+    pub(crate) fn called(
+        &mut self,
+        room: usize,
+        to: RawTarget,
+    ) -> Result<Items<RawStmt>, ReadingFault>
         requires { room < 999 }
-        ensures { Reads (λ x. x) (spec.called room to self.old) result self.new }
+        ensures { Reads (λ x. x) (spec.call_phrase room to self.old) result self.new }
     {
         let function = self.name()?;
         self.expect(Symbol::LeftParen)?;
@@ -94,7 +99,7 @@ impl<'a> Reader<'a> {
 
     /// A call whose result is assigned.
     #[tactic(auto, unfolding(parse_laws::specs::ReadSimple::call_into))]
-    fn assigned_call(&mut self, room: usize) -> Result<Items<RawStmt>, Fault>
+    fn assigned_call(&mut self, room: usize) -> Result<Items<RawStmt>, ReadingFault>
         requires { room < 999 }
         ensures { Reads (λ x. x) (spec.call_into room RawTarget.Assign self.old) result self.new }
     {
@@ -104,10 +109,10 @@ impl<'a> Reader<'a> {
     }
 
     /// What is assigned to.
-    #[tactic(auto, using(parse_laws::proofs::StmtTurns::part_turns))]
-    fn assigned(&mut self, room: usize) -> Result<RawPlace, Fault>
+    #[tactic(auto, using(parse_laws::proofs::Reading::StmtTurns::part_turns))]
+    fn assigned(&mut self, room: usize) -> Result<RawPlace, ReadingFault>
         requires { room < 999 }
-        ensures { Reads (λ x. x) (spec.assigned room self.old) result self.new }
+        ensures { Reads (λ x. x) (spec.assigned_place room self.old) result self.new }
     {
         if room == 0 {
             return Err(self.too_deep());
@@ -121,8 +126,9 @@ impl<'a> Reader<'a> {
     }
 
     /// The rest of an assignment to a place.
-    #[tactic(auto, using(parse_laws::proofs::StmtTurns::next_symbol), unfolding(parse_laws::specs::ReadSimple::assignment_to))]
-    fn assignment_to(&mut self, room: usize, place: RawPlace) -> Result<RawStmt, Fault>
+    #[tactic(auto, using(parse_laws::proofs::Reading::StmtTurns::next_symbol),
+        unfolding(parse_laws::specs::ReadSimple::assignment_to))]
+    fn assignment_to(&mut self, room: usize, place: RawPlace) -> Result<RawStmt, ReadingFault>
         requires { room < 999 }
         ensures { Reads (λ x. x) (spec.assignment_to room place self.old) result self.new }
     {
@@ -147,11 +153,11 @@ impl<'a> Reader<'a> {
     }
 
     /// `++` or `--`, and a place.
-    #[tactic(auto, unfolding(parse_laws::specs::ReadSimple::stepped))]
-    fn stepped(&mut self, room: usize, op: BinOp) -> Result<RawStmt, Fault>
+    #[tactic(auto, unfolding(parse_laws::specs::ReadSimple::step_before_place))]
+    fn stepped(&mut self, room: usize, op: BinOp) -> Result<RawStmt, ReadingFault>
         requires some { 0 < length self.old }
         requires few { room < 999 }
-        ensures { Reads (λ x. x) (spec.stepped room op self.old) result self.new }
+        ensures { Reads (λ x. x) (spec.step_before_place room op self.old) result self.new }
     {
         let at = self.place();
         self.take();
@@ -160,8 +166,9 @@ impl<'a> Reader<'a> {
     }
 
     /// An assignment, without its semicolon.
-    #[tactic(auto, using(parse_laws::proofs::StmtTurns::next_symbol), unfolding(parse_laws::specs::ReadSimple::assignment))]
-    pub(crate) fn assignment(&mut self, room: usize) -> Result<RawStmt, Fault>
+    #[tactic(auto, using(parse_laws::proofs::Reading::StmtTurns::next_symbol),
+        unfolding(parse_laws::specs::ReadSimple::assignment))]
+    pub(crate) fn assignment(&mut self, room: usize) -> Result<RawStmt, ReadingFault>
         requires { room < 999 }
         ensures { Reads (λ x. x) (spec.assignment room self.old) result self.new }
     {
@@ -175,10 +182,10 @@ impl<'a> Reader<'a> {
     }
 
     /// An assignment, with its semicolon.
-    #[tactic(auto, unfolding(parse_laws::specs::ReadSimple::assign))]
-    pub(crate) fn assign(&mut self, room: usize) -> Result<Items<RawStmt>, Fault>
+    #[tactic(auto, unfolding(parse_laws::specs::ReadSimple::assignment_statement))]
+    pub(crate) fn assign(&mut self, room: usize) -> Result<Items<RawStmt>, ReadingFault>
         requires { room < 999 }
-        ensures { Reads (λ x. x) (spec.assign room self.old) result self.new }
+        ensures { Reads (λ x. x) (spec.assignment_statement room self.old) result self.new }
     {
         let stmt = self.assignment(room)?;
         let mut list = Items::new(self.alloc());
@@ -188,10 +195,10 @@ impl<'a> Reader<'a> {
     }
 
     /// What begins with a name: a call or an assignment.
-    #[tactic(auto, unfolding(parse_laws::specs::ReadSimple::named))]
-    pub(crate) fn named(&mut self, room: usize) -> Result<Items<RawStmt>, Fault>
+    #[tactic(auto, unfolding(parse_laws::specs::ReadSimple::call_or_assignment))]
+    pub(crate) fn named(&mut self, room: usize) -> Result<Items<RawStmt>, ReadingFault>
         requires { room < 999 }
-        ensures { Reads (λ x. x) (spec.named room self.old) result self.new }
+        ensures { Reads (λ x. x) (spec.call_or_assignment room self.old) result self.new }
     {
         if self.begins_call() {
             self.called(room, RawTarget::Nothing)
@@ -204,7 +211,7 @@ impl<'a> Reader<'a> {
 
     /// The empty statement.
     #[tactic(auto, unfolding(parse_laws::specs::ReadSimple::empty))]
-    pub(crate) fn empty(&mut self) -> Result<Items<RawStmt>, Fault>
+    pub(crate) fn empty(&mut self) -> Result<Items<RawStmt>, ReadingFault>
         ensures { Reads (λ x. x) (spec.empty self.old) result self.new }
     {
         self.expect(Symbol::Semicolon)?;
@@ -212,9 +219,9 @@ impl<'a> Reader<'a> {
     }
 
     /// A `break`, with its semicolon.
-    #[tactic(auto, unfolding(parse_laws::specs::ReadSimple::broken))]
-    pub(crate) fn broken(&mut self) -> Result<Items<RawStmt>, Fault>
-        ensures { Reads (λ x. x) (spec.broken self.old) result self.new }
+    #[tactic(auto, unfolding(parse_laws::specs::ReadSimple::break_statement))]
+    pub(crate) fn broken(&mut self) -> Result<Items<RawStmt>, ReadingFault>
+        ensures { Reads (λ x. x) (spec.break_statement self.old) result self.new }
     {
         let at = self.expect(Symbol::Break)?;
         self.expect(Symbol::Semicolon)?;
@@ -222,9 +229,9 @@ impl<'a> Reader<'a> {
     }
 
     /// A `continue`, with its semicolon.
-    #[tactic(auto, unfolding(parse_laws::specs::ReadSimple::continued))]
-    pub(crate) fn continued(&mut self) -> Result<Items<RawStmt>, Fault>
-        ensures { Reads (λ x. x) (spec.continued self.old) result self.new }
+    #[tactic(auto, unfolding(parse_laws::specs::ReadSimple::continue_statement))]
+    pub(crate) fn continued(&mut self) -> Result<Items<RawStmt>, ReadingFault>
+        ensures { Reads (λ x. x) (spec.continue_statement self.old) result self.new }
     {
         let at = self.expect(Symbol::Continue)?;
         self.expect(Symbol::Semicolon)?;
@@ -233,7 +240,7 @@ impl<'a> Reader<'a> {
 
     /// The expression of a `return`, if there is one.
     #[tactic(auto, unfolding(parse_laws::specs::ReadSimple::returned_value))]
-    fn returned_value(&mut self, room: usize) -> Result<Option<Boxed<RawExpr>>, Fault>
+    fn returned_value(&mut self, room: usize) -> Result<Option<Boxed<RawExpr>>, ReadingFault>
         requires { room < 999 }
         ensures { Reads (λ x. x) (spec.returned_value room self.old) result self.new }
     {
@@ -245,10 +252,10 @@ impl<'a> Reader<'a> {
     }
 
     /// A `return`, with its semicolon.
-    #[tactic(auto, unfolding(parse_laws::specs::ReadSimple::returned))]
-    pub(crate) fn returned(&mut self, room: usize) -> Result<Items<RawStmt>, Fault>
+    #[tactic(auto, unfolding(parse_laws::specs::ReadSimple::return_statement))]
+    pub(crate) fn returned(&mut self, room: usize) -> Result<Items<RawStmt>, ReadingFault>
         requires { room < 999 }
-        ensures { Reads (λ x. x) (spec.returned room self.old) result self.new }
+        ensures { Reads (λ x. x) (spec.return_statement room self.old) result self.new }
     {
         let at = self.expect(Symbol::Return)?;
         let value = self.returned_value(room)?;

@@ -4,17 +4,17 @@
 ghost use Rattle.std.specs.Prelude.{◌≡◌, ◌<◌, [], Some, Ok};
 ghost use Rattle.parse_laws.specs.ReadStmt as spec;
 ghost use Rattle.c_parse.specs.Reads.{Reads};
-ghost use Rattle.c_tree.specs.SpelledStatements.{Plain, Body, Item};
+ghost use Rattle.c_tree.specs.Grammar.SpelledStatements.{Plain, Body, Item};
 
 use crate::reader::Reader;
 use crate::simple::{one, only};
 use c_tree::{RawBound, RawExpr, RawShape, RawStmt, Symbol};
-use parse_laws::{Fault, ForHead};
+use parse_laws::{ForHead, ReadingFault};
 use sqlite_items::{Boxed, Items};
 use std::alloc::Global;
 
 /// A part of a `for` that is there.
-fn held(alloc: Global, stmt: RawStmt) -> Result<Option<Boxed<RawStmt>>, Fault>
+fn held(alloc: Global, stmt: RawStmt) -> Result<Option<Boxed<RawStmt>>, ReadingFault>
     ensures { Reads (λ x. x) (Ok (Some stmt, [])) result [] }
 {
     Ok(Some(Boxed::new(alloc, stmt)?))
@@ -23,7 +23,7 @@ fn held(alloc: Global, stmt: RawStmt) -> Result<Option<Boxed<RawStmt>>, Fault>
 impl<'a> Reader<'a> {
     /// `( expression )`.
     #[tactic(auto, unfolding(parse_laws::specs::ReadStmt::condition))]
-    fn condition(&mut self, room: usize) -> Result<Boxed<RawExpr>, Fault>
+    fn condition(&mut self, room: usize) -> Result<Boxed<RawExpr>, ReadingFault>
         requires { room < 999 }
         ensures { Reads (λ x. x) (spec.condition room self.old) result self.new }
     {
@@ -34,7 +34,7 @@ impl<'a> Reader<'a> {
 
     /// The declaration that begins a `for`.
     #[tactic(auto, unfolding(parse_laws::specs::ReadStmt::for_declaration))]
-    fn for_declaration(&mut self, room: usize) -> Result<RawStmt, Fault>
+    fn for_declaration(&mut self, room: usize) -> Result<RawStmt, ReadingFault>
         requires { room < 999 }
         ensures { Reads (λ x. x) (spec.for_declaration room self.old) result self.new }
     {
@@ -45,10 +45,10 @@ impl<'a> Reader<'a> {
         Ok(RawStmt::Declare(false, ty, spot, RawShape::Scalar(Some(a.expr.into_inner()))))
     }
 
-    #[tactic(auto, unfolding(parse_laws::specs::ReadStmt::setup))]
-    fn setup(&mut self, room: usize) -> Result<RawStmt, Fault>
+    #[tactic(auto, unfolding(parse_laws::specs::ReadStmt::for_setup))]
+    fn setup(&mut self, room: usize) -> Result<RawStmt, ReadingFault>
         requires { room < 999 }
-        ensures { Reads (λ x. x) (spec.setup room self.old) result self.new }
+        ensures { Reads (λ x. x) (spec.for_setup room self.old) result self.new }
     {
         if self.begins_type() {
             self.for_declaration(room)
@@ -58,8 +58,8 @@ impl<'a> Reader<'a> {
     }
 
     /// What a `for` begins with, if there is something.
-    #[tactic(auto, using(parse_laws::proofs::StmtTurns::part_turns))]
-    fn initialiser(&mut self, room: usize) -> Result<Option<Boxed<RawStmt>>, Fault>
+    #[tactic(auto, using(parse_laws::proofs::Reading::StmtTurns::part_turns))]
+    fn initialiser(&mut self, room: usize) -> Result<Option<Boxed<RawStmt>>, ReadingFault>
         requires { room < 999 }
         ensures { Reads (λ x. x) (spec.initialiser room self.old) result self.new }
     {
@@ -74,8 +74,9 @@ impl<'a> Reader<'a> {
     }
 
     /// The condition of a `for`. A missing one is the number 1 at the place of the semicolon.
-    #[tactic(auto, using(parse_laws::proofs::StmtTurns::part_turns, parse_laws::proofs::Steps::seeing))]
-    fn test(&mut self, room: usize) -> Result<Boxed<RawExpr>, Fault>
+    #[tactic(auto, using(parse_laws::proofs::Reading::StmtTurns::part_turns,
+        parse_laws::proofs::Reading::Steps::seeing))]
+    fn test(&mut self, room: usize) -> Result<Boxed<RawExpr>, ReadingFault>
         requires { room < 999 }
         ensures { Reads (λ x. x) (spec.test room self.old) result self.new }
     {
@@ -90,10 +91,10 @@ impl<'a> Reader<'a> {
     }
 
     /// The step of a `for`, if there is one.
-    #[tactic(auto, using(parse_laws::proofs::StmtTurns::part_turns))]
-    fn step(&mut self, room: usize) -> Result<Option<Boxed<RawStmt>>, Fault>
+    #[tactic(auto, using(parse_laws::proofs::Reading::StmtTurns::part_turns))]
+    fn step(&mut self, room: usize) -> Result<Option<Boxed<RawStmt>>, ReadingFault>
         requires { room < 999 }
-        ensures { Reads (λ x. x) (spec.step room self.old) result self.new }
+        ensures { Reads (λ x. x) (spec.for_step room self.old) result self.new }
     {
         if self.sees(Symbol::RightParen) {
             return Ok(None);
@@ -107,7 +108,7 @@ impl<'a> Reader<'a> {
 
     /// What stands after the body of a `do`.
     #[tactic(auto, unfolding(parse_laws::specs::ReadStmt::do_end))]
-    fn do_end(&mut self, room: usize) -> Result<Boxed<RawExpr>, Fault>
+    fn do_end(&mut self, room: usize) -> Result<Boxed<RawExpr>, ReadingFault>
         requires { room < 999 }
         ensures { Reads (λ x. x) (spec.do_end room self.old) result self.new }
     {
@@ -119,7 +120,7 @@ impl<'a> Reader<'a> {
 
     /// The head of a `for`.
     #[tactic(auto, unfolding(parse_laws::specs::ReadStmt::for_head))]
-    fn for_head(&mut self, room: usize) -> Result<ForHead, Fault>
+    fn for_head(&mut self, room: usize) -> Result<ForHead, ReadingFault>
         requires { room < 999 }
         ensures { Reads (λ x. x) (spec.for_head room self.old) result self.new }
     {
@@ -134,9 +135,9 @@ impl<'a> Reader<'a> {
     }
 
     /// The bound of a loop, if there is one.
-    #[tactic(auto, unfolding(parse_laws::specs::ReadStmt::loop_bound))]
-    fn optional_bound(&mut self) -> Result<Option<RawBound>, Fault>
-        ensures { Reads (λ x. x) (spec.loop_bound self.old) result self.new }
+    #[tactic(auto, unfolding(parse_laws::specs::ReadStmt::possible_bound))]
+    fn optional_bound(&mut self) -> Result<Option<RawBound>, ReadingFault>
+        ensures { Reads (λ x. x) (spec.possible_bound self.old) result self.new }
     {
         if !self.sees(Symbol::Bound) {
             return Ok(None);
@@ -146,9 +147,9 @@ impl<'a> Reader<'a> {
     }
 
     /// The end of a compound statement.
-    #[tactic(auto, unfolding(parse_laws::specs::ReadStmt::closed))]
-    fn closed(&mut self, list: Items<RawStmt>) -> Result<Items<RawStmt>, Fault>
-        ensures { Reads (λ x. x) (spec.closed list self.old) result self.new }
+    #[tactic(auto, unfolding(parse_laws::specs::ReadStmt::compound_end))]
+    fn closed(&mut self, list: Items<RawStmt>) -> Result<Items<RawStmt>, ReadingFault>
+        ensures { Reads (λ x. x) (spec.compound_end list self.old) result self.new }
     {
         self.expect(Symbol::RightBrace)?;
         Ok(list)
@@ -156,8 +157,9 @@ impl<'a> Reader<'a> {
 
     /// A statement that is neither a declaration nor a compound statement.
     #[cycle(code)]
-    #[tactic(auto, using(parse_laws::proofs::StmtTurns::stmt_turns, parse_laws::proofs::StmtTurns::next_symbol), unfolding(parse_laws::specs::ReadStmt::plain))]
-    fn plain(&mut self, room: usize) -> Result<Items<RawStmt>, Fault>
+    #[tactic(auto, using(parse_laws::proofs::Reading::StmtTurns::stmt_turns,
+        parse_laws::proofs::Reading::StmtTurns::next_symbol), unfolding(parse_laws::specs::ReadStmt::plain_phrase))]
+    fn plain(&mut self, room: usize) -> Result<Items<RawStmt>, ReadingFault>
         requires { room < 1000 }
         ensures { Reads (λ x. x) (spec.statement room Plain self.old) result self.new }
     {
@@ -181,10 +183,10 @@ impl<'a> Reader<'a> {
     }
 
     #[cycle(code)]
-    #[tactic(auto, unfolding(parse_laws::specs::ReadStmt::choice))]
-    fn choice(&mut self, room: usize) -> Result<Items<RawStmt>, Fault>
+    #[tactic(auto, unfolding(parse_laws::specs::ReadStmt::if_statement))]
+    fn choice(&mut self, room: usize) -> Result<Items<RawStmt>, ReadingFault>
         requires { room < 999 }
-        ensures { Reads (λ x. x) (spec.choice room (spec.statement room Body) self.old) result self.new }
+        ensures { Reads (λ x. x) (spec.if_statement room (spec.statement room Body) self.old) result self.new }
     {
         self.expect(Symbol::If)?;
         let a = self.condition(room)?;
@@ -196,7 +198,7 @@ impl<'a> Reader<'a> {
     /// The side of an `if` after its `else`, if there is one.
     #[cycle(code)]
     #[tactic(auto, unfolding(parse_laws::specs::ReadStmt::other))]
-    fn other(&mut self, room: usize) -> Result<Items<RawStmt>, Fault>
+    fn other(&mut self, room: usize) -> Result<Items<RawStmt>, ReadingFault>
         requires { room < 999 }
         ensures { Reads (λ x. x) (spec.other room (spec.statement room Body) self.old) result self.new }
     {
@@ -209,10 +211,10 @@ impl<'a> Reader<'a> {
 
     /// A loop, with its bound before it.
     #[cycle(code)]
-    #[tactic(auto, unfolding(parse_laws::specs::ReadStmt::looped))]
-    fn looped(&mut self, room: usize) -> Result<Items<RawStmt>, Fault>
+    #[tactic(auto, unfolding(parse_laws::specs::ReadStmt::loop_phrase))]
+    fn looped(&mut self, room: usize) -> Result<Items<RawStmt>, ReadingFault>
         requires { room < 999 }
-        ensures { Reads (λ x. x) (spec.looped room (spec.statement room Body) self.old) result self.new }
+        ensures { Reads (λ x. x) (spec.loop_phrase room (spec.statement room Body) self.old) result self.new }
     {
         let bound = self.optional_bound()?;
         match self.peek() {
@@ -225,7 +227,11 @@ impl<'a> Reader<'a> {
 
     #[cycle(code)]
     #[tactic(auto, unfolding(parse_laws::specs::ReadStmt::while_loop))]
-    fn while_loop(&mut self, room: usize, bound: Option<RawBound>) -> Result<Items<RawStmt>, Fault>
+    fn while_loop(
+        &mut self,
+        room: usize,
+        bound: Option<RawBound>,
+    ) -> Result<Items<RawStmt>, ReadingFault>
         requires { room < 999 }
         ensures { Reads (λ x. x) (spec.while_loop room (spec.statement room Body) bound self.old) result self.new }
     {
@@ -236,10 +242,14 @@ impl<'a> Reader<'a> {
     }
 
     #[cycle(code)]
-    #[tactic(auto, unfolding(parse_laws::specs::ReadStmt::do_loop))]
-    fn do_loop(&mut self, room: usize, bound: Option<RawBound>) -> Result<Items<RawStmt>, Fault>
+    #[tactic(auto, unfolding(parse_laws::specs::ReadStmt::do_phrase))]
+    fn do_loop(
+        &mut self,
+        room: usize,
+        bound: Option<RawBound>,
+    ) -> Result<Items<RawStmt>, ReadingFault>
         requires { room < 999 }
-        ensures { Reads (λ x. x) (spec.do_loop room (spec.statement room Body) bound self.old) result self.new }
+        ensures { Reads (λ x. x) (spec.do_phrase room (spec.statement room Body) bound self.old) result self.new }
     {
         let at = self.expect(Symbol::Do)?;
         let xs = self.body(room)?;
@@ -249,7 +259,11 @@ impl<'a> Reader<'a> {
 
     #[cycle(code)]
     #[tactic(auto, unfolding(parse_laws::specs::ReadStmt::for_loop))]
-    fn for_loop(&mut self, room: usize, bound: Option<RawBound>) -> Result<Items<RawStmt>, Fault>
+    fn for_loop(
+        &mut self,
+        room: usize,
+        bound: Option<RawBound>,
+    ) -> Result<Items<RawStmt>, ReadingFault>
         requires { room < 999 }
         ensures { Reads (λ x. x) (spec.for_loop room (spec.statement room Body) bound self.old) result self.new }
     {
@@ -264,8 +278,9 @@ impl<'a> Reader<'a> {
 
     /// A side of an `if`, or the body of a loop.
     #[cycle(code)]
-    #[tactic(auto, using(parse_laws::proofs::StmtTurns::stmt_turns), unfolding(parse_laws::specs::ReadStmt::as_body))]
-    fn body(&mut self, room: usize) -> Result<Items<RawStmt>, Fault>
+    #[tactic(auto, using(parse_laws::proofs::Reading::StmtTurns::stmt_turns),
+        unfolding(parse_laws::specs::ReadStmt::as_body))]
+    fn body(&mut self, room: usize) -> Result<Items<RawStmt>, ReadingFault>
         requires { room < 1000 }
         ensures { Reads (λ x. x) (spec.statement room Body self.old) result self.new }
     {
@@ -278,10 +293,11 @@ impl<'a> Reader<'a> {
 
     /// The list of a compound statement. Each statement takes a token, so there are enough turns.
     #[cycle(code)]
-    #[tactic(auto, using(parse_laws::proofs::Until::until_turns, parse_laws::proofs::StmtTurns::stmt_turns))]
-    pub(crate) fn block(&mut self, room: usize) -> Result<Items<RawStmt>, Fault>
+    #[tactic(auto, using(parse_laws::proofs::Reading::Until::until_turns,
+        parse_laws::proofs::Reading::StmtTurns::stmt_turns))]
+    pub(crate) fn block(&mut self, room: usize) -> Result<Items<RawStmt>, ReadingFault>
         requires { room < 1000 }
-        ensures { Reads (λ x. x) (spec.block (spec.statement room Item) self.old) result self.new }
+        ensures { Reads (λ x. x) (spec.compound_phrase (spec.statement room Item) self.old) result self.new }
     {
         self.expect(Symbol::LeftBrace)?;
         let mut list = Items::new(self.alloc());
@@ -297,8 +313,9 @@ impl<'a> Reader<'a> {
 
     /// A statement of a list.
     #[cycle(code)]
-    #[tactic(auto, using(parse_laws::proofs::StmtTurns::stmt_turns), unfolding(parse_laws::specs::ReadStmt::as_item))]
-    fn item(&mut self, room: usize) -> Result<Items<RawStmt>, Fault>
+    #[tactic(auto, using(parse_laws::proofs::Reading::StmtTurns::stmt_turns),
+        unfolding(parse_laws::specs::ReadStmt::as_item))]
+    fn item(&mut self, room: usize) -> Result<Items<RawStmt>, ReadingFault>
         requires { room < 1000 }
         ensures { Reads (λ x. x) (spec.statement room Item self.old) result self.new }
     {

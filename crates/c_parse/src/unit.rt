@@ -9,12 +9,12 @@ ghost use Rattle.c_parse.specs.Reads.{Reads};
 
 use crate::reader::Reader;
 use c_tree::{RawFunc, RawParam, RawTop, Symbol, Ty};
-use parse_laws::Fault;
+use parse_laws::ReadingFault;
 use sqlite_items::Items;
 use std::alloc::Global;
 
 /// The list of this function alone.
-fn only(alloc: Global, function: RawFunc) -> Result<Items<RawTop>, Fault>
+fn only(alloc: Global, function: RawFunc) -> Result<Items<RawTop>, ReadingFault>
     ensures { Reads (λ x. x) (Ok (RawTop.Func function ∷ [], [])) result [] }
 {
     let mut list = Items::new(alloc);
@@ -24,7 +24,7 @@ fn only(alloc: Global, function: RawFunc) -> Result<Items<RawTop>, Fault>
 
 impl<'a> Reader<'a> {
     #[tactic(auto, unfolding(parse_laws::specs::ReadUnit::param))]
-    fn param(&mut self) -> Result<RawParam, Fault>
+    fn param(&mut self) -> Result<RawParam, ReadingFault>
         ensures { Reads (λ x. x) (spec.param self.old) result self.new }
     {
         let ty = self.type_name()?;
@@ -33,8 +33,8 @@ impl<'a> Reader<'a> {
     }
 
     /// Parameters with commas between them. Each takes a token, so there are enough turns.
-    #[tactic(auto, using(parse_laws::proofs::Lists::list_turns))]
-    fn param_list(&mut self) -> Result<Items<RawParam>, Fault>
+    #[tactic(auto, using(parse_laws::proofs::Reading::Lists::list_turns))]
+    fn param_list(&mut self) -> Result<Items<RawParam>, ReadingFault>
         ensures { Reads (λ x. x) (phrases another spec.param self.old) result self.new }
     {
         let mut list = Items::new(self.alloc());
@@ -50,7 +50,7 @@ impl<'a> Reader<'a> {
     }
 
     #[tactic(auto, unfolding(parse_laws::specs::ReadUnit::params))]
-    fn params(&mut self) -> Result<Items<RawParam>, Fault>
+    fn params(&mut self) -> Result<Items<RawParam>, ReadingFault>
         ensures { Reads (λ x. x) (spec.params self.old) result self.new }
     {
         if self.sees(Symbol::RightParen) {
@@ -65,7 +65,12 @@ impl<'a> Reader<'a> {
 
     /// An extern variable, which may be an array.
     #[tactic(auto, unfolding(parse_laws::specs::ReadUnit::outer_declarator))]
-    fn outer_declarator(&mut self, room: usize, constant: bool, ty: Ty) -> Result<RawTop, Fault>
+    fn outer_declarator(
+        &mut self,
+        room: usize,
+        constant: bool,
+        ty: Ty,
+    ) -> Result<RawTop, ReadingFault>
         requires { room < 999 }
         ensures { Reads (λ x. x) (spec.outer_declarator room constant ty self.old) result self.new }
     {
@@ -77,8 +82,13 @@ impl<'a> Reader<'a> {
         Ok(RawTop::Outer(constant, ty, spot, Some(size.expr.into_inner())))
     }
 
-    #[tactic(auto, using(parse_laws::proofs::Lists::list_turns))]
-    fn outer_list(&mut self, room: usize, constant: bool, ty: Ty) -> Result<Items<RawTop>, Fault>
+    #[tactic(auto, using(parse_laws::proofs::Reading::Lists::list_turns))]
+    fn outer_list(
+        &mut self,
+        room: usize,
+        constant: bool,
+        ty: Ty,
+    ) -> Result<Items<RawTop>, ReadingFault>
         requires { room < 999 }
         ensures { Reads (λ x. x) (phrases another (spec.outer_declarator room constant ty) self.old) result self.new }
     {
@@ -95,7 +105,7 @@ impl<'a> Reader<'a> {
     }
 
     #[tactic(auto, unfolding(parse_laws::specs::ReadUnit::outers))]
-    fn outers(&mut self, room: usize) -> Result<Items<RawTop>, Fault>
+    fn outers(&mut self, room: usize) -> Result<Items<RawTop>, ReadingFault>
         requires { room < 999 }
         ensures { Reads (λ x. x) (spec.outers room self.old) result self.new }
     {
@@ -109,7 +119,13 @@ impl<'a> Reader<'a> {
 
     /// A declarator of a variable.
     #[tactic(auto, unfolding(parse_laws::specs::ReadUnit::global, parse_laws::specs::ReadDecl::declarator))]
-    fn global(&mut self, room: usize, kept: bool, constant: bool, ty: Ty) -> Result<RawTop, Fault>
+    fn global(
+        &mut self,
+        room: usize,
+        kept: bool,
+        constant: bool,
+        ty: Ty,
+    ) -> Result<RawTop, ReadingFault>
         requires { room < 999 }
         ensures { Reads (λ x. x) (spec.global room kept constant ty self.old) result self.new }
     {
@@ -118,14 +134,14 @@ impl<'a> Reader<'a> {
         Ok(RawTop::Global(kept, constant, ty, spot, shape))
     }
 
-    #[tactic(auto, using(parse_laws::proofs::Lists::list_turns))]
+    #[tactic(auto, using(parse_laws::proofs::Reading::Lists::list_turns))]
     fn global_list(
         &mut self,
         room: usize,
         kept: bool,
         constant: bool,
         ty: Ty,
-    ) -> Result<Items<RawTop>, Fault>
+    ) -> Result<Items<RawTop>, ReadingFault>
         requires { room < 999 }
         ensures { Reads (λ x. x) (phrases another (spec.global room kept constant ty) self.old) result self.new }
     {
@@ -148,7 +164,7 @@ impl<'a> Reader<'a> {
         kept: bool,
         constant: bool,
         ty: Ty,
-    ) -> Result<Items<RawTop>, Fault>
+    ) -> Result<Items<RawTop>, ReadingFault>
         requires { room < 999 }
         ensures { Reads (λ x. x) (spec.globals room kept constant ty self.old) result self.new }
     {
@@ -164,7 +180,7 @@ impl<'a> Reader<'a> {
         room: usize,
         kept: bool,
         gives: Option<Ty>,
-    ) -> Result<Items<RawTop>, Fault>
+    ) -> Result<Items<RawTop>, ReadingFault>
         requires { room < 999 }
         ensures { Reads (λ x. x) (spec.function room kept gives self.old) result self.new }
     {
@@ -185,7 +201,11 @@ impl<'a> Reader<'a> {
 
     /// Variables, or a function that gives a value.
     #[tactic(auto, unfolding(parse_laws::specs::ReadUnit::variables_or_function))]
-    fn variables_or_function(&mut self, room: usize, kept: bool) -> Result<Items<RawTop>, Fault>
+    fn variables_or_function(
+        &mut self,
+        room: usize,
+        kept: bool,
+    ) -> Result<Items<RawTop>, ReadingFault>
         requires { room < 999 }
         ensures { Reads (λ x. x) (spec.variables_or_function room kept self.old) result self.new }
     {
@@ -199,7 +219,7 @@ impl<'a> Reader<'a> {
 
     /// What may stand after `static`.
     #[tactic(auto, unfolding(parse_laws::specs::ReadUnit::after_static))]
-    fn after_static(&mut self, room: usize, kept: bool) -> Result<Items<RawTop>, Fault>
+    fn after_static(&mut self, room: usize, kept: bool) -> Result<Items<RawTop>, ReadingFault>
         requires { room < 999 }
         ensures { Reads (λ x. x) (spec.after_static room kept self.old) result self.new }
     {
@@ -217,7 +237,7 @@ impl<'a> Reader<'a> {
 
     /// A declaration or a function.
     #[tactic(auto, unfolding(parse_laws::specs::ReadUnit::top_of))]
-    fn top_of(&mut self, room: usize) -> Result<Items<RawTop>, Fault>
+    fn top_of(&mut self, room: usize) -> Result<Items<RawTop>, ReadingFault>
         requires { room < 999 }
         ensures { Reads (λ x. x) (spec.top_of room self.old) result self.new }
     {
@@ -229,7 +249,7 @@ impl<'a> Reader<'a> {
     }
 
     /// Whether no token is left.
-    #[tactic(auto, using(parse_laws::proofs::Until::ends))]
+    #[tactic(auto, using(parse_laws::proofs::Reading::Until::ends))]
     fn is_end(&self) -> bool
         ensures { result ≡ spec.is_end self.now }
     {
@@ -239,9 +259,9 @@ impl<'a> Reader<'a> {
         }
     }
 
-    #[tactic(auto, unfolding(parse_laws::specs::ReadUnit::finished))]
-    fn finished(&mut self, list: Items<RawTop>) -> Result<Items<RawTop>, Fault>
-        ensures { Reads (λ x. x) (spec.finished list self.old) result self.new }
+    #[tactic(auto, unfolding(parse_laws::specs::ReadUnit::unit_end))]
+    fn finished(&mut self, list: Items<RawTop>) -> Result<Items<RawTop>, ReadingFault>
+        ensures { Reads (λ x. x) (spec.unit_end list self.old) result self.new }
     {
         if !self.is_end() {
             return Err(self.refuse());
@@ -250,10 +270,10 @@ impl<'a> Reader<'a> {
     }
 
     /// All tokens. What is declared takes a token, so there are enough turns.
-    #[tactic(auto, using(parse_laws::proofs::Until::until_turns))]
-    pub(crate) fn whole(&mut self, room: usize) -> Result<Items<RawTop>, Fault>
+    #[tactic(auto, using(parse_laws::proofs::Reading::Until::until_turns))]
+    pub(crate) fn whole(&mut self, room: usize) -> Result<Items<RawTop>, ReadingFault>
         requires { room < 999 }
-        ensures { Reads (λ x. x) (spec.whole room self.old) result self.new }
+        ensures { Reads (λ x. x) (spec.whole_unit room self.old) result self.new }
     {
         let mut list = Items::new(self.alloc());
         for _turn in 0..self.left() {

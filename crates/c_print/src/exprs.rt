@@ -1,7 +1,7 @@
 //! The text of expressions (C11 6.5).
 
 ghost use Rattle.std.specs.Prelude.{◌≡◌, ◌++◌, OnOk, codes, flat_map};
-ghost use Rattle.print_laws.specs.PrintedExpressions.{joined, expr_text, operand_text};
+ghost use Rattle.print_laws.specs.PrintedExpressions.{comma_list, expr_text, operand_text};
 
 use c_tree::{Expr, Func, NoMemory, Program};
 use print_words::{bin_text, level, push, push_name, push_number, strength, type_text, un_text};
@@ -29,7 +29,7 @@ fn push_operand(
 
 /// An expression.
 #[cycle(exprs)]
-#[tactic(auto, using(print_laws::proofs::ExprLayers::expr_layers))]
+#[tactic(auto, using(print_laws::proofs::Composing::ExprLayers::expr_layers))]
 pub(crate) fn push_expr(
     text: &mut Vec<u8>,
     program: &Program,
@@ -76,14 +76,14 @@ pub(crate) fn push_expr(
 }
 
 /// Expressions with a comma between any two.
-#[tactic(auto, unfolding(print_laws::specs::PrintedExpressions::joined))]
+#[tactic(auto, unfolding(print_laws::specs::PrintedExpressions::comma_list))]
 pub(crate) fn push_exprs(
     text: &mut Vec<u8>,
     program: &Program,
     func: &Func,
     exprs: &[Expr],
 ) -> Result<(), NoMemory>
-    ensures { OnOk result (text.new.items ≡ text.old.items ++ joined (expr_text program.now func.now) exprs.now) }
+    ensures { OnOk result (text.new.items ≡ text.old.items ++ comma_list (expr_text program.now func.now) exprs.now) }
 {
     match exprs.split_first() {
         None => Ok(()),
@@ -100,7 +100,8 @@ fn push_more(
     func: &Func,
     exprs: &[Expr],
 ) -> Result<(), NoMemory>
-    ensures { OnOk result (text.new.items ≡ text.old.items ++ flat_map (λ e. codes ", " ++ expr_text program.now func.now e) exprs.now) }
+    ensures { OnOk result (text.new.items ≡ text.old.items
+        ++ flat_map (λ e. codes ", " ++ expr_text program.now func.now e) exprs.now) }
 {
     for expr in exprs {
         push(text, b", ")?;

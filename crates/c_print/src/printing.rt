@@ -2,11 +2,19 @@
 
 ghost use Rattle.std.specs.Prelude.{◌≡◌, ◌++◌, ℕ, List, IfOk, OnOk, take, codes, flat_map};
 ghost use Rattle.c_tree.specs.declared.unit.Unit.{Unit as Tree};
-ghost use Rattle.c_tree.specs.Checked.{IsSpelled};
-ghost use Rattle.c_tree.specs.Refusals.{Typed};
+ghost use Rattle.c_tree.specs.Checking.Checked.{IsSpelled};
+ghost use Rattle.c_tree.specs.Checking.Refusals.{Typed};
 ghost use Rattle.print_laws.specs.Again.{IsReadAs};
-ghost use Rattle.print_laws.specs.PrintedExpressions.{joined};
-ghost use Rattle.print_laws.specs.Printed.{global_text, result_text, param_text, params_text, head_text, func_text, printed};
+ghost use Rattle.print_laws.specs.PrintedExpressions.{comma_list};
+ghost use Rattle.print_laws.specs.Printed.{
+  global_text,
+  result_text,
+  param_text,
+  params_text,
+  head_text,
+  func_text,
+  printed_program,
+};
 
 use crate::stmts::push_block;
 use c_tree::{Func, Global as Outside, Local, NoMemory, Program, Ty};
@@ -15,26 +23,28 @@ use print_words::{push, push_declared, push_global, type_text};
 use std::alloc::Global;
 use typed_laws::program_is_typed;
 
-/// The text of a program: one declaration or statement a line in the order of the program, the globals first, four blanks
-/// a level, braces always, and the bound of a loop at the beginning of the line before it. It is read again as this program:
-/// it has tokens that spell a unit, and with each entry with which the program was typed this unit is typed as the program.
+/// The text of a program: one declaration or statement a line in the order of the program, the globals first, four
+/// blanks a level, braces always, and the bound of a loop at the beginning of the line before it. It is read again as
+/// this program: it has tokens that spell a unit, and with each entry with which the program was typed this unit is
+/// typed as the program.
 ///
 /// # Errors
 ///
 /// `NoMemory` is want of memory.
 pub fn print(alloc: Global, program: &Program) -> Result<Vec<u8>, NoMemory>
-    ensures text { IfOk result (λ t. t.items ≡ printed program.now) }
+    ensures text { IfOk result (λ t. t.items ≡ printed_program program.now) }
     ensures read { IfOk result (λ t. (entry : List ℕ) × IsReadAs t.items entry program.now) }
-    ensures again { (unit : Tree) (entry : List ℕ) → IsSpelled unit → Typed unit entry program.now → IfOk result (λ t. IsReadAs t.items entry program.now) }
+    ensures again { (unit : Tree) (entry : List ℕ) → IsSpelled unit → Typed unit entry program.now
+        → IfOk result (λ t. IsReadAs t.items entry program.now) }
 {
     program_is_typed(program);
     printed_programs_are_read_again();
     printed(alloc, program)
 }
 
-#[tactic(auto, unfolding(print_laws::specs::Printed::printed))]
+#[tactic(auto, unfolding(print_laws::specs::Printed::printed_program))]
 fn printed(alloc: Global, program: &Program) -> Result<Vec<u8>, NoMemory>
-    ensures { IfOk result (λ t. t.items ≡ printed program.now) }
+    ensures { IfOk result (λ t. t.items ≡ printed_program program.now) }
 {
     let mut text = Vec::new(alloc);
     push_globals(&mut text, program.globals.as_slice())?;
@@ -101,7 +111,8 @@ fn push_params(text: &mut Vec<u8>, func: &Func) -> Result<(), NoMemory>
     push_listed(text, &locals[..count])
 }
 
-#[tactic(auto, unfolding(print_laws::specs::Printed::params_text, print_laws::specs::Printed::param_text, print_laws::specs::PrintedExpressions::joined))]
+#[tactic(auto, unfolding(print_laws::specs::Printed::params_text, print_laws::specs::Printed::param_text,
+    print_laws::specs::PrintedExpressions::comma_list))]
 fn push_listed(text: &mut Vec<u8>, params: &[Local]) -> Result<(), NoMemory>
     ensures { OnOk result (text.new.items ≡ text.old.items ++ params_text params.now) }
 {

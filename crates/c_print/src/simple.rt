@@ -2,14 +2,23 @@
 
 ghost use Rattle.std.specs.Prelude.{◌≡◌, ◌++◌, OnOk};
 ghost use Rattle.print_laws.specs.PrintedExpressions.{expr_text};
-ghost use Rattle.print_laws.specs.PrintedStatements.{list_text, value_part, place_text, assign_text, target_text, called_text, return_text, simple_text};
+ghost use Rattle.print_laws.specs.PrintedStatements.{
+  list_text,
+  value_part,
+  place_text,
+  assign_text,
+  target_text,
+  called_text,
+  return_text,
+  simple_text,
+};
 
 use crate::exprs::{push_expr, push_exprs};
 use c_tree::{BinOp, Expr, Func, NoMemory, Place, Program, Stmt, Target};
 use print_words::{bin_text, push, push_declaration, push_func_name, push_name};
 
 /// A statement of one line, without its semicolon; of a statement of several lines, nothing.
-#[tactic(auto, using(print_laws::proofs::StmtLayers::simple_layers))]
+#[tactic(auto, using(print_laws::proofs::Composing::StmtLayers::simple_layers))]
 pub(crate) fn push_simple(
     text: &mut Vec<u8>,
     program: &Program,

@@ -2,7 +2,16 @@
 
 ghost use Rattle.std.specs.Prelude.{◌≡◌, ◌+◌, ◌++◌, OnOk, codes};
 ghost use Rattle.print_laws.specs.PrintedExpressions.{expr_text};
-ghost use Rattle.print_laws.specs.PrintedStatements.{line, bound_text, for_text, simple_text, stmt_text, stmts_text, otherwise_text, part_text};
+ghost use Rattle.print_laws.specs.PrintedStatements.{
+  line,
+  bound_text,
+  for_text,
+  simple_text,
+  stmt_text,
+  stmts_text,
+  otherwise_text,
+  part_text,
+};
 
 use crate::exprs::push_expr;
 use crate::simple::push_simple;
@@ -21,7 +30,8 @@ fn push_around(
     expr: &Expr,
     after: &[u8],
 ) -> Result<(), NoMemory>
-    ensures { OnOk result (text.new.items ≡ text.old.items ++ line level (before.now ++ expr_text program.now func.now expr.now ++ after.now)) }
+    ensures { OnOk result (text.new.items ≡ text.old.items ++ line level (before.now ++ expr_text program.now func.now
+        expr.now ++ after.now)) }
 {
     push_margin(text, level)?;
     push(text, before)?;
@@ -38,7 +48,8 @@ fn push_simple_line(
     level: usize,
     stmt: &Stmt,
 ) -> Result<(), NoMemory>
-    ensures { OnOk result (text.new.items ≡ text.old.items ++ line level (simple_text program.now func.now stmt.now ++ codes ";")) }
+    ensures { OnOk result (text.new.items ≡ text.old.items ++ line level (simple_text program.now func.now stmt.now
+        ++ codes ";")) }
 {
     push_margin(text, level)?;
     push_simple(text, program, func, stmt)?;
@@ -71,7 +82,8 @@ fn push_for_head(
     condition: &Expr,
     step: &Option<Boxed<Stmt>>,
 ) -> Result<(), NoMemory>
-    ensures { OnOk result (text.new.items ≡ text.old.items ++ for_text (part_text program.now func.now first.now) (expr_text program.now func.now condition.now) (part_text program.now func.now step.now)) }
+    ensures { OnOk result (text.new.items ≡ text.old.items ++ for_text (part_text program.now func.now first.now)
+        (expr_text program.now func.now condition.now) (part_text program.now func.now step.now)) }
 {
     push(text, b"for (")?;
     push_part(text, program, func, first)?;
@@ -93,7 +105,9 @@ fn push_for(
     condition: &Expr,
     step: &Option<Boxed<Stmt>>,
 ) -> Result<(), NoMemory>
-    ensures { OnOk result (text.new.items ≡ text.old.items ++ line level (for_text (part_text program.now func.now first.now) (expr_text program.now func.now condition.now) (part_text program.now func.now step.now))) }
+    ensures { OnOk result (text.new.items ≡ text.old.items
+        ++ line level (for_text (part_text program.now func.now first.now) (expr_text program.now func.now
+        condition.now) (part_text program.now func.now step.now))) }
 {
     push_margin(text, level)?;
     push_for_head(text, program, func, first, condition, step)?;
@@ -120,7 +134,7 @@ pub(crate) fn push_block(
 
 // What stands behind the first list of an `if`.
 #[cycle(stmts)]
-#[tactic(auto, using(print_laws::proofs::StmtLayers::otherwise_layers))]
+#[tactic(auto, using(print_laws::proofs::Composing::StmtLayers::otherwise_layers))]
 fn push_otherwise(
     text: &mut Vec<u8>,
     program: &Program,
@@ -140,7 +154,7 @@ fn push_otherwise(
 
 // A statement at a level.
 #[cycle(stmts)]
-#[tactic(auto, using(print_laws::proofs::StmtLayers::stmt_layers))]
+#[tactic(auto, using(print_laws::proofs::Composing::StmtLayers::stmt_layers))]
 fn push_stmt(
     text: &mut Vec<u8>,
     program: &Program,

@@ -2,7 +2,7 @@
 use Rattle.std.proofs.Common.{◌≡◌, ℕ, ◌+◌, add-zero, List, [], ◌∷◌, ◌++◌, refl, ap, sym}
 use Rattle.c_tree.specs.declared.unit.RawTop.{RawTop}
 use Rattle.c_tree.specs.declared.unit.RawTop.TheVariants as top
-use Rattle.c_tree.specs.Naming.{File, behind_top, known_funcs, funcs_of, globals_of}
+use Rattle.c_tree.specs.Checking.Naming.{File, behind_top, known_funcs, funcs_of, globals_of}
 use Rattle.c_resolve.specs.Files.{top_funcs, top_globals, func_count}
 
 pub funcs_of-cons : (f : File) (t : RawTop) (ts : List RawTop) → funcs_of f (t ∷ ts) ≡ top_funcs f t ++ funcs_of (behind_top f t) ts

@@ -8,8 +8,8 @@ use Rattle.c_tree.specs.declared.unit.RawExpr.{RawExpr}
 use Rattle.c_tree.specs.declared.unit.RawExpr.TheVariants.{Num, Name, Elem, Un, Cast, Bin, Cond, Paren}
 use Rattle.c_tree.specs.declared.unit.RawExpr.TheBlock.{shape-the_row-RawExpr-0, hidden-the_row-RawExpr-0}
 use denote.Hole.Carrier.{hidden}
-use Rattle.c_tree.specs.Scopes.{Known, entity_of}
-use Rattle.c_tree.specs.Uses.{Read, expr_uses, row_uses}
+use Rattle.c_tree.specs.Checking.Scopes.{Known, entity_of}
+use Rattle.c_tree.specs.Checking.Uses.{Read, expr_uses, row_uses}
 
 pub expr_uses-Num : (ks : List Known) (at : ℕ) (t : Ty) (n : ℕ) → expr_uses ks (Num at t n) ≡ []
 unfolding expr_uses

@@ -1,14 +1,24 @@
 //! The walk over a function: its scopes, its locals and its declarations.
 
 ghost use Rattle.std.specs.Prelude.{◌≡◌, ◌++◌, IfOk, OnOk, List, [], option_map, length, unwrap_or, Some};
-ghost use Rattle.c_tree.specs.Naming as naming;
-ghost use Rattle.c_tree.specs.Constants.{exprs_of, array_length, shape_length};
-ghost use Rattle.c_tree.specs.Uses.{declared_at, length_uses, list_uses, declarator_uses, sized, params_uses, stmts_uses, constant_uses, constants_uses};
+ghost use Rattle.c_tree.specs.Checking.Naming as naming;
+ghost use Rattle.c_tree.specs.Checking.Constants.{exprs_of, declared_length, shape_length};
+ghost use Rattle.c_tree.specs.Checking.Uses.{
+  declared_at,
+  length_uses,
+  list_uses,
+  declarator_uses,
+  sized_use,
+  params_uses,
+  stmts_uses,
+  constant_uses,
+  constants_uses,
+};
 ghost use Rattle.std.specs.Option.{option_map_or};
-ghost use Rattle.c_tree.specs.Naming.{stmts_of, list_behind};
-ghost use Rattle.c_resolve.specs.Entered.{entered};
+ghost use Rattle.c_tree.specs.Checking.Naming.{stmts_of, list_behind};
+ghost use Rattle.c_resolve.specs.Entered.{function_scope};
 ghost use Rattle.c_faults.specs.Verdicts.{after_use, after_uses};
-ghost use Rattle.c_resolve.specs.Walks.{scope_of, within, IsOuter, ended};
+ghost use Rattle.c_resolve.specs.Walks.{scope_of, list_scope, IsOuter, scope_at_end};
 
 use crate::expr;
 use c_faults::Verdict;
@@ -45,7 +55,7 @@ impl<'a> Checker<'a> {
     /// Opens a scope inside.
     pub(crate) fn open(&mut self, looped: bool) -> Result<Outer, NoMemory>
         ensures outer { IfOk result (IsOuter (scope_of self.old)) }
-        ensures scope { OnOk result (scope_of self.new ≡ within (scope_of self.old) looped) }
+        ensures scope { OnOk result (scope_of self.new ≡ list_scope (scope_of self.old) looped) }
         ensures same { self.new.verdict ≡ self.old.verdict }
     {
         let outer = Outer {
@@ -63,7 +73,7 @@ impl<'a> Checker<'a> {
 
     /// Ends the scope inside.
     pub(crate) fn close(&mut self, outer: Outer) -> Result<(), NoMemory>
-        ensures scope { OnOk result (scope_of self.new ≡ ended (scope_of self.old) outer) }
+        ensures scope { OnOk result (scope_of self.new ≡ scope_at_end (scope_of self.old) outer) }
         ensures same { self.new.verdict ≡ self.old.verdict }
     {
         self.names.close(outer.count)?;
@@ -81,8 +91,10 @@ impl<'a> Checker<'a> {
         size: Option<u32>,
     ) -> Result<u32, NoMemory>
         ensures number { IfOk result (λ n. n ≡ length self.old.locals) }
-        ensures scope { OnOk result (scope_of self.new ≡ naming.declared (scope_of self.old) constant ty x.now.name size) }
-        ensures first { OnOk result (self.new.verdict ≡ after_use self.old.verdict (declared_at self.old.names self.old.depth x.now)) }
+        ensures scope { OnOk result (scope_of self.new ≡ naming.scope_with_local (scope_of self.old) constant ty
+            x.now.name size) }
+        ensures first { OnOk result (self.new.verdict ≡ after_use self.old.verdict
+            (declared_at self.old.names self.old.depth x.now)) }
     {
         let name = x.name.as_slice();
         let again = self.names.is_known_at(self.depth, name);
@@ -106,7 +118,7 @@ impl<'a> Checker<'a> {
     }
 
     /// A declaration in a list.
-    #[tactic(auto, using(c_faults::proofs::Heard::heard))]
+    #[tactic(auto, using(c_faults::proofs::AfterUses::after_uses_rules))]
     pub(crate) fn declaration(
         &mut self,
         constant: bool,
@@ -114,9 +126,12 @@ impl<'a> Checker<'a> {
         x: &'a Spot,
         shape: &RawShape,
     ) -> Result<Stmt, NoMemory>
-        ensures tree { IfOk result (λ s. s ≡ naming.declaration (naming.declared (scope_of self.old) constant ty x.now.name (shape_length shape.now)).known (length self.old.locals) shape.now) }
-        ensures scope { OnOk result (scope_of self.new ≡ naming.declared (scope_of self.old) constant ty x.now.name (shape_length shape.now)) }
-        ensures first { OnOk result (self.new.verdict ≡ after_uses self.old.verdict (declarator_uses (scope_of self.old) constant ty x.now shape.now)) }
+        ensures tree { IfOk result (λ s. s ≡ naming.declaration_stmt (naming.scope_with_local (scope_of self.old)
+            constant ty x.now.name (shape_length shape.now)).known (length self.old.locals) shape.now) }
+        ensures scope { OnOk result (scope_of self.new ≡ naming.scope_with_local (scope_of self.old) constant ty
+            x.now.name (shape_length shape.now)) }
+        ensures first { OnOk result (self.new.verdict ≡ after_uses self.old.verdict
+            (declarator_uses (scope_of self.old) constant ty x.now shape.now)) }
     {
         match shape {
             RawShape::Scalar(e) => {
@@ -138,7 +153,8 @@ impl<'a> Checker<'a> {
     /// The length of an array, if it is written.
     pub(crate) fn length(&mut self, e: &Option<RawExpr>) -> Result<(), NoMemory>
         ensures names { self.new.names ≡ self.old.names }
-        ensures first { OnOk result (self.new.verdict ≡ after_uses self.old.verdict (length_uses self.old.names e.now)) }
+        ensures first { OnOk result (self.new.verdict ≡ after_uses self.old.verdict (length_uses self.old.names e.now))
+            }
     {
         expr::length(self.alloc, &self.names, &mut self.verdict, e)
     }
@@ -151,7 +167,8 @@ impl<'a> Checker<'a> {
     ) -> Result<Items<i64>, NoMemory>
         ensures numbers { IfOk result (λ zs. zs ≡ naming.shape_values ty (RawShape.Scalar e.now)) }
         ensures names { self.new.names ≡ self.old.names }
-        ensures first { OnOk result (self.new.verdict ≡ after_uses self.old.verdict (option_map_or (constant_uses self.old.names) e.now [])) }
+        ensures first { OnOk result (self.new.verdict ≡ after_uses self.old.verdict
+            (option_map_or (constant_uses self.old.names) e.now [])) }
     {
         expr::initial_number(self.alloc, &self.names, &mut self.verdict, ty, e)
     }
@@ -164,16 +181,18 @@ impl<'a> Checker<'a> {
     ) -> Result<Items<i64>, NoMemory>
         ensures numbers { IfOk result (λ zs. zs ≡ naming.kept_numbers ty (unwrap_or list.now [])) }
         ensures names { self.new.names ≡ self.old.names }
-        ensures first { OnOk result (self.new.verdict ≡ after_uses self.old.verdict (constants_uses self.old.names (unwrap_or list.now []))) }
+        ensures first { OnOk result (self.new.verdict ≡ after_uses self.old.verdict (constants_uses self.old.names
+            (unwrap_or list.now []))) }
     {
         expr::initial_numbers(self.alloc, &self.names, &mut self.verdict, ty, list)
     }
 
     /// Declares the parameters in order.
-    #[tactic(auto, using(c_faults::proofs::Heard::heard))]
+    #[tactic(auto, using(c_faults::proofs::AfterUses::after_uses_rules))]
     fn params(&mut self, params: &'a [RawParam]) -> Result<(), NoMemory>
         ensures scope { OnOk result (scope_of self.new ≡ naming.with_params (scope_of self.old) params.now) }
-        ensures first { OnOk result (self.new.verdict ≡ after_uses self.old.verdict (params_uses (scope_of self.old) params.now)) }
+        ensures first { OnOk result (self.new.verdict ≡ after_uses self.old.verdict (params_uses (scope_of self.old)
+            params.now)) }
     {
         for param in params {
             let _ = self.declare(false, param.ty, &param.spot, None)?;
@@ -183,7 +202,7 @@ impl<'a> Checker<'a> {
 
     // Begins the function of a number.
     fn enter(&mut self, number: u32, returns: Option<Ty>)
-        ensures scope { scope_of self.new ≡ entered self.old.names number returns }
+        ensures scope { scope_of self.new ≡ function_scope self.old.names number returns }
         ensures same { self.new.verdict ≡ self.old.verdict }
     {
         self.depth = 2;
@@ -194,12 +213,19 @@ impl<'a> Checker<'a> {
     }
 
     /// The locals and the statements of the function of a number. Its names are in scope no more.
-    #[tactic(auto, using(c_faults::proofs::Heard::heard))]
+    #[tactic(auto, using(c_faults::proofs::AfterUses::after_uses_rules))]
     pub(crate) fn function(&mut self, number: u32, func: &'a RawFunc) -> Result<Body, NoMemory>
-        ensures locals { IfOk result (λ b. b.locals ≡ (list_behind (naming.with_params (entered self.old.names number func.now.result) func.now.params) func.now.body).locals) }
-        ensures stmts { IfOk result (λ b. b.stmts ≡ stmts_of (naming.with_params (entered self.old.names number func.now.result) func.now.params) func.now.body) }
+        ensures locals { IfOk result (λ b. b.locals
+            ≡ (list_behind (naming.with_params (function_scope self.old.names number func.now.result) func.now.params)
+            func.now.body).locals) }
+        ensures stmts { IfOk result (λ b. b.stmts
+            ≡ stmts_of (naming.with_params (function_scope self.old.names number func.now.result) func.now.params)
+            func.now.body) }
         ensures names { OnOk result (self.new.names ≡ self.old.names) }
-        ensures first { OnOk result (self.new.verdict ≡ after_uses self.old.verdict (params_uses (entered self.old.names number func.now.result) func.now.params ++ stmts_uses (naming.with_params (entered self.old.names number func.now.result) func.now.params) func.now.body)) }
+        ensures first { OnOk result (self.new.verdict ≡ after_uses self.old.verdict
+            (params_uses (function_scope self.old.names number func.now.result) func.now.params
+            ++ stmts_uses (naming.with_params (function_scope self.old.names number func.now.result) func.now.params)
+            func.now.body)) }
     {
         let count = self.names.count();
         self.enter(number, func.result);

@@ -1,13 +1,22 @@
 //! The names of expressions.
 
 ghost use Rattle.std.specs.Prelude.{◌≡◌, IfOk, OnOk, [], option_map, unwrap_or, length};
-ghost use Rattle.c_tree.specs.Constants as spec;
+ghost use Rattle.c_tree.specs.Checking.Constants as spec;
 ghost use Rattle.std.specs.Option.{option_map_or};
-ghost use Rattle.c_tree.specs.Naming.{optional, kept_numbers, shape_values};
-ghost use Rattle.c_tree.specs.Uses.{Read, expr_uses, exprs_uses, optional_uses, constant_uses, length_uses, list_uses, constants_uses};
-ghost use Rattle.c_tree.specs.Scopes as scope;
+ghost use Rattle.c_tree.specs.Checking.Naming.{optional_expr, kept_numbers, shape_values};
+ghost use Rattle.c_tree.specs.Checking.Uses.{
+  Read,
+  expr_uses,
+  exprs_uses,
+  optional_uses,
+  constant_uses,
+  length_uses,
+  list_uses,
+  constants_uses,
+};
+ghost use Rattle.c_tree.specs.Checking.Scopes as scope;
 ghost use Rattle.c_tree.specs.declared.unit.RawExpr.TheVariants as raw;
-ghost use Rattle.c_names.specs.Tables.{entity_of};
+ghost use Rattle.c_names.specs.Tables.{entity_view};
 ghost use Rattle.c_faults.specs.Verdicts.{after_use, after_uses};
 
 use c_faults::Verdict;
@@ -18,7 +27,7 @@ use std::alloc::Global;
 
 // What a name that is read stands for, and whether an index follows it.
 fn read(names: &Names, verdict: &mut Verdict, x: &Spot, indexed: bool) -> Option<Entity>
-    ensures entity { option_map entity_of result ≡ scope.entity_of names.now x.now.name }
+    ensures entity { option_map entity_view result ≡ scope.entity_of names.now x.now.name }
     ensures first { verdict.new ≡ after_use verdict.old (Read x.now.at (scope.entity_of names.now x.now.name) indexed) }
 {
     let entity = names.entity(x.name.as_slice());
@@ -28,7 +37,8 @@ fn read(names: &Names, verdict: &mut Verdict, x: &Spot, indexed: bool) -> Option
 
 /// An expression with its names replaced.
 #[cycle(exprs)]
-#[tactic(auto, using(c_constants::proofs::ConstantLayers::expr_layers, crate::proofs::UseLayers::expr_use_layers, c_faults::proofs::Heard::heard))]
+#[tactic(auto, using(c_constants::proofs::ConstantLayers::expr_layers, crate::proofs::UseLayers::expr_use_layers,
+    c_faults::proofs::AfterUses::after_uses_rules))]
 pub(crate) fn expr(
     alloc: Global,
     names: &Names,
@@ -70,7 +80,8 @@ fn boxed(
 
 // An element of an array.
 #[cycle(exprs)]
-#[tactic(auto, using(c_constants::proofs::ConstantLayers::expr_layers, crate::proofs::UseLayers::expr_use_layers, c_faults::proofs::Heard::heard))]
+#[tactic(auto, using(c_constants::proofs::ConstantLayers::expr_layers, crate::proofs::UseLayers::expr_use_layers,
+    c_faults::proofs::AfterUses::after_uses_rules))]
 fn element(
     alloc: Global,
     names: &Names,
@@ -88,7 +99,8 @@ fn element(
 
 // An operator with two operands.
 #[cycle(exprs)]
-#[tactic(auto, using(c_constants::proofs::ConstantLayers::expr_layers, crate::proofs::UseLayers::expr_use_layers, c_faults::proofs::Heard::heard))]
+#[tactic(auto, using(c_constants::proofs::ConstantLayers::expr_layers, crate::proofs::UseLayers::expr_use_layers,
+    c_faults::proofs::AfterUses::after_uses_rules))]
 fn binary(
     alloc: Global,
     names: &Names,
@@ -107,7 +119,8 @@ fn binary(
 
 // A choice by a condition.
 #[cycle(exprs)]
-#[tactic(auto, using(c_constants::proofs::ConstantLayers::expr_layers, crate::proofs::UseLayers::expr_use_layers, c_faults::proofs::Heard::heard))]
+#[tactic(auto, using(c_constants::proofs::ConstantLayers::expr_layers, crate::proofs::UseLayers::expr_use_layers,
+    c_faults::proofs::AfterUses::after_uses_rules))]
 fn choice(
     alloc: Global,
     names: &Names,
@@ -117,7 +130,8 @@ fn choice(
     b: &Boxed<RawExpr>,
 ) -> Result<Expr, NoMemory>
     ensures tree { IfOk result (λ x. x ≡ spec.expr_of names.now (raw.Cond c.now a.now b.now)) }
-    ensures first { OnOk result (verdict.new ≡ after_uses verdict.old (expr_uses names.now (raw.Cond c.now a.now b.now))) }
+    ensures first { OnOk result (verdict.new
+        ≡ after_uses verdict.old (expr_uses names.now (raw.Cond c.now a.now b.now))) }
 {
     let c = boxed(alloc, names, verdict, c)?;
     let a = boxed(alloc, names, verdict, a)?;
@@ -126,7 +140,7 @@ fn choice(
 }
 
 /// A list of expressions.
-#[tactic(auto, using(c_faults::proofs::Heard::heard))]
+#[tactic(auto, using(c_faults::proofs::AfterUses::after_uses_rules))]
 pub(crate) fn exprs(
     alloc: Global,
     names: &Names,
@@ -144,14 +158,14 @@ pub(crate) fn exprs(
 }
 
 /// An expression, if there is one.
-#[tactic(auto, using(c_faults::proofs::Heard::heard))]
+#[tactic(auto, using(c_faults::proofs::AfterUses::after_uses_rules))]
 pub(crate) fn optional(
     alloc: Global,
     names: &Names,
     verdict: &mut Verdict,
     e: &Option<RawExpr>,
 ) -> Result<Option<Expr>, NoMemory>
-    ensures tree { IfOk result (λ x. x ≡ optional names.now e.now) }
+    ensures tree { IfOk result (λ x. x ≡ optional_expr names.now e.now) }
     ensures first { OnOk result (verdict.new ≡ after_uses verdict.old (optional_uses names.now e.now)) }
 {
     match e {
@@ -161,14 +175,14 @@ pub(crate) fn optional(
 }
 
 /// The value of an expression that is to be a constant.
-#[tactic(auto, using(c_faults::proofs::Heard::heard))]
+#[tactic(auto, using(c_faults::proofs::AfterUses::after_uses_rules))]
 pub(crate) fn constant(
     alloc: Global,
     names: &Names,
     verdict: &mut Verdict,
     e: &RawExpr,
 ) -> Result<Option<Value>, NoMemory>
-    ensures value { IfOk result (λ v. v ≡ spec.constant e.now) }
+    ensures value { IfOk result (λ v. v ≡ spec.constant_value e.now) }
     ensures first { OnOk result (verdict.new ≡ after_uses verdict.old (constant_uses names.now e.now)) }
 {
     let _ = expr(alloc, names, verdict, e)?;
@@ -178,7 +192,7 @@ pub(crate) fn constant(
 }
 
 /// The length of an array, if it is written.
-#[tactic(auto, using(c_faults::proofs::Heard::heard))]
+#[tactic(auto, using(c_faults::proofs::AfterUses::after_uses_rules))]
 pub(crate) fn length(
     alloc: Global,
     names: &Names,
@@ -194,7 +208,7 @@ pub(crate) fn length(
 }
 
 /// The expressions of a list, if there is one; else none.
-#[tactic(auto, using(c_faults::proofs::Heard::heard))]
+#[tactic(auto, using(c_faults::proofs::AfterUses::after_uses_rules))]
 pub(crate) fn list(
     alloc: Global,
     names: &Names,
@@ -221,7 +235,7 @@ pub(crate) fn count(list: &Option<Items<RawExpr>>) -> Option<usize>
 }
 
 /// The numbers of a list of constants, converted to a type.
-#[tactic(auto, using(c_faults::proofs::Heard::heard))]
+#[tactic(auto, using(c_faults::proofs::AfterUses::after_uses_rules))]
 fn constants(
     alloc: Global,
     names: &Names,
@@ -241,7 +255,7 @@ fn constants(
 }
 
 /// The number of a scalar's initialiser, converted to a type, if there is one.
-#[tactic(auto, using(c_faults::proofs::Heard::heard))]
+#[tactic(auto, using(c_faults::proofs::AfterUses::after_uses_rules))]
 pub(crate) fn initial_number(
     alloc: Global,
     names: &Names,
@@ -250,7 +264,8 @@ pub(crate) fn initial_number(
     e: &Option<RawExpr>,
 ) -> Result<Items<i64>, NoMemory>
     ensures numbers { IfOk result (λ zs. zs ≡ shape_values ty (RawShape.Scalar e.now)) }
-    ensures first { OnOk result (verdict.new ≡ after_uses verdict.old (option_map_or (constant_uses names.now) e.now [])) }
+    ensures first { OnOk result (verdict.new ≡ after_uses verdict.old (option_map_or (constant_uses names.now) e.now
+        [])) }
 {
     let mut numbers = Items::new(alloc);
     if let Some(e) = e {
@@ -261,7 +276,7 @@ pub(crate) fn initial_number(
 }
 
 /// The numbers of an array's list, converted to a type, if there is one.
-#[tactic(auto, using(c_faults::proofs::Heard::heard))]
+#[tactic(auto, using(c_faults::proofs::AfterUses::after_uses_rules))]
 pub(crate) fn initial_numbers(
     alloc: Global,
     names: &Names,
@@ -270,7 +285,8 @@ pub(crate) fn initial_numbers(
     list: &Option<Items<RawExpr>>,
 ) -> Result<Items<i64>, NoMemory>
     ensures numbers { IfOk result (λ zs. zs ≡ kept_numbers ty (unwrap_or list.now [])) }
-    ensures first { OnOk result (verdict.new ≡ after_uses verdict.old (constants_uses names.now (unwrap_or list.now []))) }
+    ensures first { OnOk result (verdict.new
+        ≡ after_uses verdict.old (constants_uses names.now (unwrap_or list.now []))) }
 {
     match list {
         None => Ok(Items::new(alloc)),

@@ -1,8 +1,8 @@
 //! A unit with its names replaced by numbers.
 
 ghost use Rattle.std.specs.Prelude.{◌≡◌, None, IfOk};
-ghost use Rattle.c_tree.specs.Naming.{started, globals_of, funcs_of};
-ghost use Rattle.c_tree.specs.Uses.{uses};
+ghost use Rattle.c_tree.specs.Checking.Naming.{file_start, globals_of, funcs_of};
+ghost use Rattle.c_tree.specs.Checking.Uses.{uses};
 ghost use Rattle.c_faults.specs.Verdicts.{after_uses};
 
 use crate::checker::Checker;
@@ -27,7 +27,7 @@ pub struct Resolved {
 /// whole unit. It fails for want of memory alone.
 pub fn resolve(alloc: Global, unit: &Unit) -> Result<Resolved, NoMemory>
     ensures globals { IfOk result (λ r. r.globals ≡ globals_of unit.now.tops) }
-    ensures funcs { IfOk result (λ r. r.funcs ≡ funcs_of (started unit.now.tops) unit.now.tops) }
+    ensures funcs { IfOk result (λ r. r.funcs ≡ funcs_of (file_start unit.now.tops) unit.now.tops) }
     ensures verdict { IfOk result (λ r. r.verdict ≡ after_uses None (uses unit.now)) }
 {
     let tops = unit.tops.as_slice();

@@ -1,12 +1,20 @@
 //! The statements of a function.
 
 ghost use Rattle.std.specs.Prelude.{◌≡◌, ◌∷◌, [], IfOk, OnOk, option_map, Some};
-ghost use Rattle.c_tree.specs.Naming as naming;
-ghost use Rattle.c_tree.specs.Naming.{past, targeted, behind, stmt_of, stmts_of, list_behind, list_locals};
-ghost use Rattle.c_tree.specs.Uses.{Left, place_uses, target_uses, has_target, stmt_uses, stmts_uses};
+ghost use Rattle.c_tree.specs.Checking.Naming as naming;
+ghost use Rattle.c_tree.specs.Checking.Naming.{
+  scope_past_list,
+  scope_behind_target,
+  scope_behind,
+  stmt_of,
+  stmts_of,
+  list_behind,
+  list_locals,
+};
+ghost use Rattle.c_tree.specs.Checking.Uses.{Left, place_uses, target_uses, has_target, stmt_uses, stmts_uses};
 ghost use Rattle.c_tree.specs.declared.unit.RawStmt.TheVariants as raw;
 ghost use Rattle.c_faults.specs.Verdicts.{after_uses};
-ghost use Rattle.c_resolve.specs.Walks.{scope_of, within, option_behind, option_uses};
+ghost use Rattle.c_resolve.specs.Walks.{scope_of, list_scope, option_behind, option_uses};
 
 use crate::checker::Checker;
 use crate::expr;
@@ -45,11 +53,12 @@ fn has_target(target: &RawTarget) -> bool
 
 impl<'a> Checker<'a> {
     // What is assigned to.
-    #[tactic(auto, using(c_faults::proofs::Heard::heard))]
+    #[tactic(auto, using(c_faults::proofs::AfterUses::after_uses_rules))]
     fn place(&mut self, place: &RawPlace) -> Result<Place, NoMemory>
         ensures tree { IfOk result (λ p. p ≡ naming.place_of self.old.names place.now) }
         ensures scope { scope_of self.new ≡ scope_of self.old }
-        ensures first { OnOk result (self.new.verdict ≡ after_uses self.old.verdict (place_uses self.old.names place.now)) }
+        ensures first { OnOk result (self.new.verdict ≡ after_uses self.old.verdict
+            (place_uses self.old.names place.now)) }
     {
         match place {
             RawPlace::Scalar(x) => {
@@ -67,11 +76,12 @@ impl<'a> Checker<'a> {
     }
 
     // Where the result of a call goes.
-    #[tactic(auto, using(c_faults::proofs::Heard::heard))]
+    #[tactic(auto, using(c_faults::proofs::AfterUses::after_uses_rules))]
     fn target(&mut self, target: &'a RawTarget) -> Result<Target, NoMemory>
         ensures tree { IfOk result (λ t. t ≡ naming.target_of (scope_of self.old) target.now) }
-        ensures scope { OnOk result (scope_of self.new ≡ targeted (scope_of self.old) target.now) }
-        ensures first { OnOk result (self.new.verdict ≡ after_uses self.old.verdict (target_uses (scope_of self.old) target.now)) }
+        ensures scope { OnOk result (scope_of self.new ≡ scope_behind_target (scope_of self.old) target.now) }
+        ensures first { OnOk result (self.new.verdict ≡ after_uses self.old.verdict (target_uses (scope_of self.old)
+            target.now)) }
     {
         match target {
             RawTarget::Nothing => Ok(Target::Nothing),
@@ -88,16 +98,19 @@ impl<'a> Checker<'a> {
     }
 
     // A call.
-    #[tactic(auto, using(c_faults::proofs::Heard::heard, crate::proofs::StmtLayers::stmt_layers, crate::proofs::StmtLayers::stmt_use_layers, crate::proofs::StmtLayers::behind_layers))]
+    #[tactic(auto, using(c_faults::proofs::AfterUses::after_uses_rules, crate::proofs::StmtLayers::stmt_layers,
+        crate::proofs::StmtLayers::stmt_use_layers, crate::proofs::StmtLayers::behind_layers))]
     fn call(
         &mut self,
         target: &'a RawTarget,
         callee: &Spot,
         arguments: &Items<RawExpr>,
     ) -> Result<Stmt, NoMemory>
-        ensures tree { IfOk result (λ s. s ≡ stmt_of (scope_of self.old) (raw.Call target.now callee.now arguments.now)) }
-        ensures scope { OnOk result (scope_of self.new ≡ targeted (scope_of self.old) target.now) }
-        ensures first { OnOk result (self.new.verdict ≡ after_uses self.old.verdict (stmt_uses (scope_of self.old) (raw.Call target.now callee.now arguments.now))) }
+        ensures tree { IfOk result (λ s. s ≡ stmt_of (scope_of self.old) (raw.Call target.now callee.now
+            arguments.now)) }
+        ensures scope { OnOk result (scope_of self.new ≡ scope_behind_target (scope_of self.old) target.now) }
+        ensures first { OnOk result (self.new.verdict ≡ after_uses self.old.verdict (stmt_uses (scope_of self.old)
+            (raw.Call target.now callee.now arguments.now))) }
     {
         let arguments = arguments.as_slice();
         let is_used = has_target(target);
@@ -110,7 +123,8 @@ impl<'a> Checker<'a> {
     }
 
     // An assignment.
-    #[tactic(auto, using(c_faults::proofs::Heard::heard, crate::proofs::StmtLayers::stmt_layers, crate::proofs::StmtLayers::stmt_use_layers, crate::proofs::StmtLayers::behind_layers))]
+    #[tactic(auto, using(c_faults::proofs::AfterUses::after_uses_rules, crate::proofs::StmtLayers::stmt_layers,
+        crate::proofs::StmtLayers::stmt_use_layers, crate::proofs::StmtLayers::behind_layers))]
     fn assignment(
         &mut self,
         place: &RawPlace,
@@ -118,8 +132,10 @@ impl<'a> Checker<'a> {
         e: &RawExpr,
     ) -> Result<Stmt, NoMemory>
         ensures tree { IfOk result (λ s. s ≡ stmt_of (scope_of self.old) (raw.Assign place.now op e.now)) }
-        ensures scope { OnOk result (scope_of self.new ≡ behind (scope_of self.old) (raw.Assign place.now op e.now)) }
-        ensures first { OnOk result (self.new.verdict ≡ after_uses self.old.verdict (stmt_uses (scope_of self.old) (raw.Assign place.now op e.now))) }
+        ensures scope { OnOk result (scope_of self.new ≡ scope_behind (scope_of self.old)
+            (raw.Assign place.now op e.now)) }
+        ensures first { OnOk result (self.new.verdict ≡ after_uses self.old.verdict (stmt_uses (scope_of self.old)
+            (raw.Assign place.now op e.now))) }
     {
         let place = self.place(place)?;
         let e = expr::expr(self.alloc, &self.names, &mut self.verdict, e)?;
@@ -127,7 +143,7 @@ impl<'a> Checker<'a> {
     }
 
     // A `break` or a `continue`.
-    #[tactic(auto, using(c_faults::proofs::Heard::heard))]
+    #[tactic(auto, using(c_faults::proofs::AfterUses::after_uses_rules))]
     fn leaving(&mut self, at: u32, stmt: Stmt) -> Stmt
         ensures tree { result ≡ stmt }
         ensures scope { scope_of self.new ≡ scope_of self.old }
@@ -138,11 +154,13 @@ impl<'a> Checker<'a> {
     }
 
     // A `return`.
-    #[tactic(auto, using(c_faults::proofs::Heard::heard, crate::proofs::StmtLayers::stmt_layers, crate::proofs::StmtLayers::stmt_use_layers, crate::proofs::StmtLayers::behind_layers))]
+    #[tactic(auto, using(c_faults::proofs::AfterUses::after_uses_rules, crate::proofs::StmtLayers::stmt_layers,
+        crate::proofs::StmtLayers::stmt_use_layers, crate::proofs::StmtLayers::behind_layers))]
     fn returning(&mut self, at: u32, e: &Option<RawExpr>) -> Result<Stmt, NoMemory>
         ensures tree { IfOk result (λ s. s ≡ stmt_of (scope_of self.old) (raw.Return at e.now)) }
-        ensures scope { OnOk result (scope_of self.new ≡ behind (scope_of self.old) (raw.Return at e.now)) }
-        ensures first { OnOk result (self.new.verdict ≡ after_uses self.old.verdict (stmt_uses (scope_of self.old) (raw.Return at e.now))) }
+        ensures scope { OnOk result (scope_of self.new ≡ scope_behind (scope_of self.old) (raw.Return at e.now)) }
+        ensures first { OnOk result (self.new.verdict ≡ after_uses self.old.verdict (stmt_uses (scope_of self.old)
+            (raw.Return at e.now))) }
     {
         self.verdict
             .returned(at, e.is_some(), self.returns.is_some());
@@ -155,7 +173,8 @@ impl<'a> Checker<'a> {
     pub(crate) fn stmts(&mut self, list: &'a [RawStmt]) -> Result<Items<Stmt>, NoMemory>
         ensures tree { IfOk result (λ xs. xs ≡ stmts_of (scope_of self.old) list.now) }
         ensures scope { OnOk result (scope_of self.new ≡ list_behind (scope_of self.old) list.now) }
-        ensures first { OnOk result (self.new.verdict ≡ after_uses self.old.verdict (stmts_uses (scope_of self.old) list.now)) }
+        ensures first { OnOk result (self.new.verdict ≡ after_uses self.old.verdict (stmts_uses (scope_of self.old)
+            list.now)) }
     {
         let mut stmts = Items::new(self.alloc);
         for stmt in list {
@@ -167,9 +186,10 @@ impl<'a> Checker<'a> {
     // The statements of a list inside, in a loop or not.
     #[cycle(stmts)]
     fn inner(&mut self, looped: bool, list: &'a Items<RawStmt>) -> Result<Items<Stmt>, NoMemory>
-        ensures tree { IfOk result (λ xs. xs ≡ stmts_of (within (scope_of self.old) looped) list.now) }
-        ensures scope { OnOk result (scope_of self.new ≡ past (scope_of self.old) (list_locals list.now)) }
-        ensures first { OnOk result (self.new.verdict ≡ after_uses self.old.verdict (stmts_uses (within (scope_of self.old) looped) list.now)) }
+        ensures tree { IfOk result (λ xs. xs ≡ stmts_of (list_scope (scope_of self.old) looped) list.now) }
+        ensures scope { OnOk result (scope_of self.new ≡ scope_past_list (scope_of self.old) (list_locals list.now)) }
+        ensures first { OnOk result (self.new.verdict ≡ after_uses self.old.verdict
+            (stmts_uses (list_scope (scope_of self.old) looped) list.now)) }
     {
         let outer = self.open(looped)?;
         let stmts = self.stmts(list.as_slice())?;
@@ -179,11 +199,12 @@ impl<'a> Checker<'a> {
 
     // One statement, if there is one.
     #[cycle(stmts)]
-    #[tactic(auto, using(c_faults::proofs::Heard::heard))]
+    #[tactic(auto, using(c_faults::proofs::AfterUses::after_uses_rules))]
     fn held(&mut self, stmt: &'a Option<Boxed<RawStmt>>) -> Result<Option<Boxed<Stmt>>, NoMemory>
         ensures tree { IfOk result (λ x. x ≡ option_map (stmt_of (scope_of self.old)) stmt.now) }
         ensures scope { OnOk result (scope_of self.new ≡ option_behind (scope_of self.old) stmt.now) }
-        ensures first { OnOk result (self.new.verdict ≡ after_uses self.old.verdict (option_uses (scope_of self.old) stmt.now)) }
+        ensures first { OnOk result (self.new.verdict ≡ after_uses self.old.verdict (option_uses (scope_of self.old)
+            stmt.now)) }
     {
         match stmt {
             None => Ok(None),
@@ -196,7 +217,8 @@ impl<'a> Checker<'a> {
 
     // A `while`, whose body is a list inside.
     #[cycle(stmts)]
-    #[tactic(auto, using(c_faults::proofs::Heard::heard, crate::proofs::StmtLayers::stmt_layers, crate::proofs::StmtLayers::stmt_use_layers, crate::proofs::StmtLayers::behind_layers))]
+    #[tactic(auto, using(c_faults::proofs::AfterUses::after_uses_rules, crate::proofs::StmtLayers::stmt_layers,
+        crate::proofs::StmtLayers::stmt_use_layers, crate::proofs::StmtLayers::behind_layers))]
     fn while_loop(
         &mut self,
         at: u32,
@@ -205,8 +227,10 @@ impl<'a> Checker<'a> {
         condition: &RawExpr,
     ) -> Result<Stmt, NoMemory>
         ensures tree { IfOk result (λ s. s ≡ stmt_of (scope_of self.old) (raw.While at bound condition.now body.now)) }
-        ensures scope { OnOk result (scope_of self.new ≡ behind (scope_of self.old) (raw.While at bound condition.now body.now)) }
-        ensures first { OnOk result (self.new.verdict ≡ after_uses self.old.verdict (stmt_uses (scope_of self.old) (raw.While at bound condition.now body.now))) }
+        ensures scope { OnOk result (scope_of self.new ≡ scope_behind (scope_of self.old)
+            (raw.While at bound condition.now body.now)) }
+        ensures first { OnOk result (self.new.verdict ≡ after_uses self.old.verdict (stmt_uses (scope_of self.old)
+            (raw.While at bound condition.now body.now))) }
     {
         self.verdict.looped(at, bound);
         let condition = expr::expr(self.alloc, &self.names, &mut self.verdict, condition)?;
@@ -216,7 +240,8 @@ impl<'a> Checker<'a> {
 
     // A `do`, whose body's names are not in scope in its condition.
     #[cycle(stmts)]
-    #[tactic(auto, using(c_faults::proofs::Heard::heard, crate::proofs::StmtLayers::stmt_layers, crate::proofs::StmtLayers::stmt_use_layers, crate::proofs::StmtLayers::behind_layers))]
+    #[tactic(auto, using(c_faults::proofs::AfterUses::after_uses_rules, crate::proofs::StmtLayers::stmt_layers,
+        crate::proofs::StmtLayers::stmt_use_layers, crate::proofs::StmtLayers::behind_layers))]
     fn do_loop(
         &mut self,
         at: u32,
@@ -225,8 +250,10 @@ impl<'a> Checker<'a> {
         condition: &RawExpr,
     ) -> Result<Stmt, NoMemory>
         ensures tree { IfOk result (λ s. s ≡ stmt_of (scope_of self.old) (raw.Do at bound body.now condition.now)) }
-        ensures scope { OnOk result (scope_of self.new ≡ behind (scope_of self.old) (raw.Do at bound body.now condition.now)) }
-        ensures first { OnOk result (self.new.verdict ≡ after_uses self.old.verdict (stmt_uses (scope_of self.old) (raw.Do at bound body.now condition.now))) }
+        ensures scope { OnOk result (scope_of self.new ≡ scope_behind (scope_of self.old)
+            (raw.Do at bound body.now condition.now)) }
+        ensures first { OnOk result (self.new.verdict ≡ after_uses self.old.verdict (stmt_uses (scope_of self.old)
+            (raw.Do at bound body.now condition.now))) }
     {
         self.verdict.looped(at, bound);
         let body = self.inner(true, body)?;
@@ -236,11 +263,13 @@ impl<'a> Checker<'a> {
 
     // A statement.
     #[cycle(stmts)]
-    #[tactic(auto, using(c_faults::proofs::Heard::heard, crate::proofs::StmtLayers::stmt_layers, crate::proofs::StmtLayers::stmt_use_layers, crate::proofs::StmtLayers::behind_layers))]
+    #[tactic(auto, using(c_faults::proofs::AfterUses::after_uses_rules, crate::proofs::StmtLayers::stmt_layers,
+        crate::proofs::StmtLayers::stmt_use_layers, crate::proofs::StmtLayers::behind_layers))]
     fn stmt(&mut self, stmt: &'a RawStmt) -> Result<Stmt, NoMemory>
         ensures tree { IfOk result (λ s. s ≡ stmt_of (scope_of self.old) stmt.now) }
-        ensures scope { OnOk result (scope_of self.new ≡ behind (scope_of self.old) stmt.now) }
-        ensures first { OnOk result (self.new.verdict ≡ after_uses self.old.verdict (stmt_uses (scope_of self.old) stmt.now)) }
+        ensures scope { OnOk result (scope_of self.new ≡ scope_behind (scope_of self.old) stmt.now) }
+        ensures first { OnOk result (self.new.verdict ≡ after_uses self.old.verdict (stmt_uses (scope_of self.old)
+            stmt.now)) }
     {
         match stmt {
             RawStmt::Empty => Ok(Stmt::Empty),

@@ -1,11 +1,28 @@
 //! The walk over a unit: its globals and its functions.
 
 ghost use Rattle.std.specs.Prelude.{◌≡◌, ◌+◌, ◌++◌, ◌∷◌, [], None, Some, true, false, IfOk, OnOk, length, is_some};
-ghost use Rattle.c_tree.specs.Scopes.{Function};
-ghost use Rattle.c_names.specs.Tables.{entity_of};
-ghost use Rattle.c_tree.specs.Naming.{started, known_funcs, behind_top, with_global, func_of, funcs_of, globals_of, shape_values};
-ghost use Rattle.c_tree.specs.Uses.{declared_at, top_uses, tops_uses, global_uses, outer_uses, func_uses, Sized};
-ghost use Rattle.c_tree.specs.Constants.{shape_length};
+ghost use Rattle.c_tree.specs.Checking.Scopes.{Function};
+ghost use Rattle.c_names.specs.Tables.{entity_view};
+ghost use Rattle.c_tree.specs.Checking.Naming.{
+  file_start,
+  known_funcs,
+  behind_top,
+  with_global,
+  func_in_file,
+  funcs_of,
+  globals_of,
+  shape_values,
+};
+ghost use Rattle.c_tree.specs.Checking.Uses.{
+  declared_at,
+  top_uses,
+  tops_uses,
+  global_uses,
+  outer_uses,
+  func_uses,
+  Sized,
+};
+ghost use Rattle.c_tree.specs.Checking.Constants.{shape_length};
 ghost use Rattle.c_faults.specs.Verdicts.{after_use, after_uses};
 ghost use Rattle.c_resolve.specs.Files.{file_of, top_funcs, top_globals, outer_length, func_count};
 
@@ -45,7 +62,7 @@ fn number_of(count: usize) -> Result<u32, NoMemory>
 impl<'a> UnitChecker<'a> {
     /// Before the first declaration of a unit, whose functions are known in the whole of it.
     pub(crate) fn start(alloc: Global, tops: &'a [RawTop]) -> Result<Self, NoMemory>
-        ensures file { IfOk result (λ u. file_of u ≡ started tops.now) }
+        ensures file { IfOk result (λ u. file_of u ≡ file_start tops.now) }
         ensures globals { IfOk result (λ u. u.globals ≡ []) }
         ensures funcs { IfOk result (λ u. u.funcs ≡ []) }
         ensures first { IfOk result (λ u. u.checker.verdict ≡ None) }
@@ -71,10 +88,12 @@ impl<'a> UnitChecker<'a> {
 
     // Declares a global.
     fn declare(&mut self, constant: bool, x: &'a Spot, array: bool) -> Result<(), NoMemory>
-        ensures names { OnOk result (self.new.checker.names ≡ (with_global (file_of self.old) constant x.now.name array).known) }
+        ensures names { OnOk result (self.new.checker.names
+            ≡ (with_global (file_of self.old) constant x.now.name array).known) }
         ensures globals { self.new.globals ≡ self.old.globals }
         ensures funcs { self.new.funcs ≡ self.old.funcs }
-        ensures first { OnOk result (self.new.checker.verdict ≡ after_use self.old.checker.verdict (declared_at self.old.checker.names 1 x.now)) }
+        ensures first { OnOk result (self.new.checker.verdict ≡ after_use self.old.checker.verdict
+            (declared_at self.old.checker.names 1 x.now)) }
     {
         let name = x.name.as_slice();
         let again = self.checker.names.is_known_at(FILE_SCOPE, name);
@@ -98,7 +117,8 @@ impl<'a> UnitChecker<'a> {
         values: Items<i64>,
     ) -> Result<(), NoMemory>
         ensures names { self.new.checker ≡ self.old.checker }
-        ensures globals { OnOk result (self.new.globals ≡ self.old.globals ++ (record { name = x.now.name; ty = ty; length = size; outer = outer; values = values }) ∷ []) }
+        ensures globals { OnOk result (self.new.globals ≡ self.old.globals
+            ++ (record { name = x.now.name; ty = ty; length = size; outer = outer; values = values }) ∷ []) }
         ensures funcs { self.new.funcs ≡ self.old.funcs }
     {
         let name = Name::from_slice(self.checker.alloc, x.name.as_slice())?;
@@ -113,7 +133,7 @@ impl<'a> UnitChecker<'a> {
     }
 
     // An extern variable.
-    #[tactic(auto, using(c_faults::proofs::Heard::heard))]
+    #[tactic(auto, using(c_faults::proofs::AfterUses::after_uses_rules))]
     fn outer(
         &mut self,
         constant: bool,
@@ -121,10 +141,13 @@ impl<'a> UnitChecker<'a> {
         x: &'a Spot,
         length: &Option<RawExpr>,
     ) -> Result<(), NoMemory>
-        ensures file { OnOk result (file_of self.new ≡ behind_top (file_of self.old) (RawTop.Outer constant ty x.now length.now)) }
-        ensures globals { OnOk result (self.new.globals ≡ self.old.globals ++ top_globals (RawTop.Outer constant ty x.now length.now)) }
+        ensures file { OnOk result (file_of self.new ≡ behind_top (file_of self.old) (RawTop.Outer constant ty x.now
+            length.now)) }
+        ensures globals { OnOk result (self.new.globals ≡ self.old.globals
+            ++ top_globals (RawTop.Outer constant ty x.now length.now)) }
         ensures funcs { OnOk result (self.new.funcs ≡ self.old.funcs) }
-        ensures first { OnOk result (self.new.checker.verdict ≡ after_uses self.old.checker.verdict (outer_uses (file_of self.old) x.now length.now)) }
+        ensures first { OnOk result (self.new.checker.verdict ≡ after_uses self.old.checker.verdict
+            (outer_uses (file_of self.old) x.now length.now)) }
     {
         self.checker.length(length)?;
         match outer_length(length) {
@@ -134,19 +157,22 @@ impl<'a> UnitChecker<'a> {
     }
 
     // A scalar that is extern.
-    #[tactic(auto, using(c_faults::proofs::Heard::heard))]
+    #[tactic(auto, using(c_faults::proofs::AfterUses::after_uses_rules))]
     fn outer_scalar(&mut self, constant: bool, ty: Ty, x: &'a Spot) -> Result<(), NoMemory>
-        ensures names { OnOk result (self.new.checker.names ≡ (with_global (file_of self.old) constant x.now.name false).known) }
-        ensures globals { OnOk result (self.new.globals ≡ self.old.globals ++ (record { name = x.now.name; ty = ty; length = None; outer = true; values = [] }) ∷ []) }
+        ensures names { OnOk result (self.new.checker.names
+            ≡ (with_global (file_of self.old) constant x.now.name false).known) }
+        ensures globals { OnOk result (self.new.globals ≡ self.old.globals
+            ++ (record { name = x.now.name; ty = ty; length = None; outer = true; values = [] }) ∷ []) }
         ensures funcs { OnOk result (self.new.funcs ≡ self.old.funcs) }
-        ensures first { OnOk result (self.new.checker.verdict ≡ after_use self.old.checker.verdict (declared_at self.old.checker.names 1 x.now)) }
+        ensures first { OnOk result (self.new.checker.verdict ≡ after_use self.old.checker.verdict
+            (declared_at self.old.checker.names 1 x.now)) }
     {
         self.declare(constant, x, false)?;
         self.keep(ty, x, None, true, Items::new(self.checker.alloc))
     }
 
     // An array that is extern, of this length.
-    #[tactic(auto, using(c_faults::proofs::Heard::heard))]
+    #[tactic(auto, using(c_faults::proofs::AfterUses::after_uses_rules))]
     fn outer_array(
         &mut self,
         constant: bool,
@@ -154,10 +180,14 @@ impl<'a> UnitChecker<'a> {
         x: &'a Spot,
         size: u32,
     ) -> Result<(), NoMemory>
-        ensures names { OnOk result (self.new.checker.names ≡ (with_global (file_of self.old) constant x.now.name true).known) }
-        ensures globals { OnOk result (self.new.globals ≡ self.old.globals ++ (record { name = x.now.name; ty = ty; length = Some size; outer = true; values = [] }) ∷ []) }
+        ensures names { OnOk result (self.new.checker.names
+            ≡ (with_global (file_of self.old) constant x.now.name true).known) }
+        ensures globals { OnOk result (self.new.globals ≡ self.old.globals
+            ++ (record { name = x.now.name; ty = ty; length = Some size; outer = true; values = [] }) ∷ []) }
         ensures funcs { OnOk result (self.new.funcs ≡ self.old.funcs) }
-        ensures first { OnOk result (self.new.checker.verdict ≡ after_use (after_use self.old.checker.verdict (declared_at self.old.checker.names 1 x.now)) (Sized x.now.at size None false)) }
+        ensures first { OnOk result (self.new.checker.verdict
+            ≡ after_use (after_use self.old.checker.verdict (declared_at self.old.checker.names 1 x.now))
+            (Sized x.now.at size None false)) }
     {
         self.declare(constant, x, true)?;
         self.checker.verdict.sized(x.at, size, None, false);
@@ -165,7 +195,7 @@ impl<'a> UnitChecker<'a> {
     }
 
     // A variable of file scope that is not extern.
-    #[tactic(auto, using(c_faults::proofs::Heard::heard))]
+    #[tactic(auto, using(c_faults::proofs::AfterUses::after_uses_rules))]
     fn global(
         &mut self,
         constant: bool,
@@ -173,10 +203,20 @@ impl<'a> UnitChecker<'a> {
         x: &'a Spot,
         shape: &RawShape,
     ) -> Result<(), NoMemory>
-        ensures names { OnOk result (self.new.checker.names ≡ (with_global (file_of self.old) constant x.now.name (is_some (shape_length shape.now))).known) }
-        ensures globals { OnOk result (self.new.globals ≡ self.old.globals ++ (record { name = x.now.name; ty = ty; length = shape_length shape.now; outer = false; values = shape_values ty shape.now }) ∷ []) }
+        ensures names { OnOk result (self.new.checker.names
+            ≡ (with_global (file_of self.old) constant x.now.name (is_some (shape_length shape.now))).known) }
+        ensures globals { OnOk result (self.new.globals ≡ self.old.globals
+            ++ (record {
+              name = x.now.name;
+              ty = ty;
+              length = shape_length shape.now;
+              outer = false;
+              values =
+                  shape_values ty shape.now;
+            }) ∷ []) }
         ensures funcs { OnOk result (self.new.funcs ≡ self.old.funcs) }
-        ensures first { OnOk result (self.new.checker.verdict ≡ after_uses self.old.checker.verdict (global_uses (file_of self.old) constant x.now shape.now)) }
+        ensures first { OnOk result (self.new.checker.verdict ≡ after_uses self.old.checker.verdict
+            (global_uses (file_of self.old) constant x.now shape.now)) }
     {
         match shape {
             RawShape::Scalar(e) => {
@@ -198,12 +238,13 @@ impl<'a> UnitChecker<'a> {
     }
 
     // A function.
-    #[tactic(auto, using(c_faults::proofs::Heard::heard))]
+    #[tactic(auto, using(c_faults::proofs::AfterUses::after_uses_rules))]
     fn func(&mut self, func: &'a RawFunc) -> Result<(), NoMemory>
         ensures file { OnOk result (file_of self.new ≡ behind_top (file_of self.old) (RawTop.Func func.now)) }
         ensures globals { OnOk result (self.new.globals ≡ self.old.globals) }
-        ensures funcs { OnOk result (self.new.funcs ≡ self.old.funcs ++ func_of (file_of self.old) func.now ∷ []) }
-        ensures first { OnOk result (self.new.checker.verdict ≡ after_uses self.old.checker.verdict (func_uses (file_of self.old) func.now)) }
+        ensures funcs { OnOk result (self.new.funcs ≡ self.old.funcs ++ func_in_file (file_of self.old) func.now ∷ []) }
+        ensures first { OnOk result (self.new.checker.verdict ≡ after_uses self.old.checker.verdict
+            (func_uses (file_of self.old) func.now)) }
     {
         let name = func.spot.name.as_slice();
         let again = self.checker.names.is_known_at(FILE_SCOPE, name);
@@ -222,7 +263,8 @@ impl<'a> UnitChecker<'a> {
         ensures file { OnOk result (file_of self.new ≡ behind_top (file_of self.old) top.now) }
         ensures globals { OnOk result (self.new.globals ≡ self.old.globals ++ top_globals top.now) }
         ensures funcs { OnOk result (self.new.funcs ≡ self.old.funcs ++ top_funcs (file_of self.old) top.now) }
-        ensures first { OnOk result (self.new.checker.verdict ≡ after_uses self.old.checker.verdict (top_uses (file_of self.old) top.now)) }
+        ensures first { OnOk result (self.new.checker.verdict ≡ after_uses self.old.checker.verdict
+            (top_uses (file_of self.old) top.now)) }
     {
         match top {
             RawTop::Outer(constant, ty, x, length) => self.outer(*constant, *ty, x, length),
@@ -235,7 +277,8 @@ impl<'a> UnitChecker<'a> {
     pub(crate) fn tops(&mut self, tops: &'a [RawTop]) -> Result<(), NoMemory>
         ensures globals { OnOk result (self.new.globals ≡ self.old.globals ++ globals_of tops.now) }
         ensures funcs { OnOk result (self.new.funcs ≡ self.old.funcs ++ funcs_of (file_of self.old) tops.now) }
-        ensures first { OnOk result (self.new.checker.verdict ≡ after_uses self.old.checker.verdict (tops_uses (file_of self.old) tops.now)) }
+        ensures first { OnOk result (self.new.checker.verdict ≡ after_uses self.old.checker.verdict
+            (tops_uses (file_of self.old) tops.now)) }
     {
         for top in tops {
             self.top(top)?;
@@ -276,7 +319,7 @@ fn know_top<'a>(names: &mut Names<'a>, number: u32, top: &'a RawTop) -> Result<u
 
 // What a function's name stands for.
 fn function(number: u32, func: &RawFunc) -> Entity
-    ensures { entity_of result ≡ Function number (length func.now.params) func.now.result }
+    ensures { entity_view result ≡ Function number (length func.now.params) func.now.result }
 {
     Entity::Function {
         number,
@@ -297,7 +340,15 @@ fn outer_length(length: &Option<RawExpr>) -> Option<u32>
 
 // A function whose body has been gone through.
 fn finished(alloc: Global, func: &RawFunc, body: Body) -> Result<Func, NoMemory>
-    ensures { IfOk result (λ f. f ≡ (record { name = func.now.spot.name; result = func.now.result; params = length func.now.params; locals = body.locals; body = body.stmts })) }
+    ensures { IfOk result (λ f. f
+        ≡ (record {
+          name = func.now.spot.name;
+          result = func.now.result;
+          params = length func.now.params;
+          locals =
+              body.locals;
+          body = body.stmts;
+        })) }
 {
     let params = number_of(func.params.len())?;
     let Body { locals, stmts } = body;

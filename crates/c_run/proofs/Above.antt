@@ -2,11 +2,12 @@
 use Rattle.std.proofs.Common.{◌≡◌, ℕ, zero, suc, ◌+◌, ◌<◌, List, [], ◌∷◌, ◌++◌, take, length, Some, None, option_map, refl, sym, ap, ◌∙◌, arith, length-append}
 use Rattle.std.specs.Prelude.{slice_get}
 use Rattle.c_tree.specs.declared.program.Func.{Func}
-use Rattle.c_tree.specs.Statements.{Callee}
-use Rattle.c_tree.specs.Runs.{callee, callees}
-use Rattle.c_tree.proofs.Callees.{callee_at}
+use Rattle.c_tree.specs.Meaning.Statements.{Callee}
+use Rattle.c_tree.specs.Meaning.Runs.{callee, callees}
+use Rattle.c_tree.proofs.Keeping.Callees.{callee_at}
 use Rattle.c_run.specs.Machine.{over}
 use Rattle.c_run.specs.Work.{list_work, works, works_over}
+use Rattle.plain_laws.proofs.Lists.{get-past, get-below, get-seam}
 
 -- where there is a function above, those above it are the same
 take_take : (fs : List Func) (f g : ℕ) (h : Func) → slice_get (take f fs) g ≡ Some h → take g (take f fs) ≡ take g fs
@@ -29,32 +30,19 @@ over_none fs f g e =
 
 -- ---- work
 
-get_past : {X : Type 0} → (xs : List X) (n : ℕ) → slice_get xs (length xs + n) ≡ None
-get_past [] n = refl
-get_past (x ∷ xs) n = let e : length (x ∷ xs) + n ≡ suc (length xs + n) = omega arith in ap (slice_get (x ∷ xs)) e ∙ get_past xs n
-
-get_front : {X : Type 0} → (xs ys : List X) (n : ℕ) → n < length xs → slice_get (xs ++ ys) n ≡ slice_get xs n
-get_front [] ys n lt = absurd (omega (arith, lt))
-get_front (x ∷ xs) ys zero lt = refl
-get_front (x ∷ xs) ys (suc n) lt = get_front xs ys n (omega (arith, lt))
-
-get_seam : {X : Type 0} → (xs : List X) (x : X) → slice_get (xs ++ x ∷ []) (length xs + 0) ≡ Some x
-get_seam [] x = refl
-get_seam (y ∷ xs) x = let e : length (y ∷ xs) + 0 ≡ suc (length xs + 0) = omega arith in ap (slice_get ((y ∷ xs) ++ x ∷ [])) e ∙ get_seam xs x
-
 keep : (ws : List ℕ) (fs : List Func) (n : ℕ) → n < length ws → slice_get (works ws fs) n ≡ slice_get ws n
 keep ws [] n lt = refl
 keep ws (f ∷ fs) n lt =
     let w = list_work ws f.body in
     let len = length-append ws (w ∷ []) in
-    keep (ws ++ w ∷ []) fs n (omega (arith, lt, len)) ∙ get_front ws (w ∷ []) n lt
+    keep (ws ++ w ∷ []) fs n (omega (arith, lt, len)) ∙ get-below ws (w ∷ []) n lt
 
 work_of : (ws : List ℕ) (fs : List Func) (g : ℕ) → slice_get (works ws fs) (length ws + g) ≡ option_map (λ f. list_work (works ws (take g fs)) f.body) (slice_get fs g)
-work_of ws [] g = get_past ws g
+work_of ws [] g = get-past ws g
 work_of ws (f ∷ fs) zero =
     let w = list_work ws f.body in
     let len = length-append ws (w ∷ []) in
-    keep (ws ++ w ∷ []) fs (length ws + 0) (omega (arith, len)) ∙ get_seam ws w
+    keep (ws ++ w ∷ []) fs (length ws + 0) (omega (arith, len)) ∙ get-seam ws w
 work_of ws (f ∷ fs) (suc g) =
     let w = list_work ws f.body in
     let len = length-append ws (w ∷ []) in

@@ -13,18 +13,18 @@ use Rattle.c_tree.specs.declared.value.Value.{Value}
 use Rattle.c_tree.specs.declared.value.Slot.{Slot}
 use Rattle.c_tree.specs.declared.value.Store.{Store}
 use Rattle.c_tree.specs.declared.value.Way.TheVariants as way
-use Rattle.c_tree.specs.Statements.{Callee, Outcome, Ends, Undefined, OverBound, list_exec}
-use Rattle.c_tree.specs.Runs.{param_types, arguments, entry_types, entry_slots, global_slots, back, callee, callees, Run, Ended, IsUndefined, run_of, started, run}
-use Rattle.c_tree.specs.Claims.{cost}
-use Rattle.c_tree.proofs.Callees.{callee_at}
+use Rattle.c_tree.specs.Meaning.Statements.{Callee, Outcome, Ends, Undefined, OverBound, list_exec}
+use Rattle.c_tree.specs.Meaning.Runs.{param_types, arguments, entry_types, entry_slots, global_slots, back, callee, callees, Run, Ended, IsUndefined, run_of, entry_run, run}
+use Rattle.c_tree.specs.Meaning.Claims.{trace_cost}
+use Rattle.c_tree.proofs.Keeping.Callees.{callee_at}
 use Rattle.c_run.specs.declared.run_end.RunEnd.TheVariants as end
 use Rattle.c_run.specs.declared.machine.Machine.{Machine}
 use Rattle.c_run.specs.declared.machine.Given.{Given}
-use Rattle.c_run.specs.Machine.{costed, dearer, over, finished, state, ends_as, entered}
-use Rattle.c_run.specs.Ends.{ended}
+use Rattle.c_run.specs.Machine.{costed_end, end_past_cost, over, finished_outcome, machine_end, ends_as, entry_run_end}
+use Rattle.c_run.specs.Ends.{end_of_run}
 
-pub ended_is : (t : Costs) (r : Option Ty) (o : Outcome) → ((u : List BlockName) → run_of (back r o) ≡ Ended u → cost t u < 2 ^ 128) → costed t o ≡ ended t (run_of (back r o))
-unfolding costed
+pub ended_is : (t : Costs) (r : Option Ty) (o : Outcome) → ((u : List BlockName) → run_of (back r o) ≡ Ended u → trace_cost t u < 2 ^ 128) → costed_end t o ≡ end_of_run t (run_of (back r o))
+unfolding costed_end
 ended_is t r (Ends u s way.Next) h = ap end.Ends (mod-eq_of_lt (h u refl))
 ended_is t r (Ends u s way.Break) h = ap end.Ends (mod-eq_of_lt (h u refl))
 ended_is t r (Ends u s way.Continue) h = ap end.Ends (mod-eq_of_lt (h u refl))
@@ -42,7 +42,7 @@ callee_is fs e =
 unfoldable from_entry : Program → Input → Option Func → Option Callee → Run
 from_entry p i o c =
     let ts = entry_types o in
-    started c (arguments ts i.values) (global_slots p.globals (drop (length ts) i.values))
+    entry_run c (arguments ts i.values) (global_slots p.globals (drop (length ts) i.values))
 
 pub run_none : (p : Program) (i : Input) → slice_get p.funcs p.entry ≡ None → run p i ≡ IsUndefined
 unfolding from_entry
@@ -56,16 +56,16 @@ run_some p i h e =
 
 -- ---- a machine at its beginning
 
-state_begun : (t : Costs) (fs : List Func) (o : Outcome) → state t fs 0 [] o ≡ costed t o
-unfolding costed dearer finished
-state_begun t fs (Ends u s w) = ap end.Ends (add-mod-mod 0 (cost t u) (2 ^ 128) ∙ ap (λ n. n % 2 ^ 128) (zero-add (cost t u)))
+state_begun : (t : Costs) (fs : List Func) (o : Outcome) → machine_end t fs 0 [] o ≡ costed_end t o
+unfolding costed_end end_past_cost finished_outcome
+state_begun t fs (Ends u s w) = ap end.Ends (add-mod-mod 0 (trace_cost t u) (2 ^ 128) ∙ ap (λ n. n % 2 ^ 128) (zero-add (trace_cost t u)))
 state_begun t fs Undefined = refl
 state_begun t fs OverBound = refl
 
-pub begins : (g : Given) (m : Machine) (h : Func) (vs : List Value) (gs : List Slot) (xs : List Stmt) → m.func ≡ g.program.now.entry → m.memory ≡ record { locals = entry_slots h.locals vs; globals = gs } → m.pending.items ≡ [] → m.cost ≡ 0 → xs ≡ h.body → ends_as g m (list_exec (over g.program.now.funcs m.func) m.func xs 0 false m.memory) ≡ entered g h vs gs
+pub begins : (g : Given) (m : Machine) (h : Func) (vs : List Value) (gs : List Slot) (xs : List Stmt) → m.func ≡ g.program.now.entry → m.memory ≡ record { locals = entry_slots h.locals vs; globals = gs } → m.pending.items ≡ [] → m.cost ≡ 0 → xs ≡ h.body → ends_as g m (list_exec (over g.program.now.funcs m.func) m.func xs 0 false m.memory) ≡ entry_run_end g h vs gs
 begins g m h vs gs xs func memory none free body =
     let t = g.costs.now in
     let fs = g.program.now.funcs in
     let e = g.program.now.entry in
     let s : Store = record { locals = entry_slots h.locals vs; globals = gs } in
-    (λ i. state t fs (free i) (none i) (list_exec (over fs (func i)) (func i) (body i) 0 false (memory i))) ∙ state_begun t fs (list_exec (over fs e) e h.body 0 false s)
+    (λ i. machine_end t fs (free i) (none i) (list_exec (over fs (func i)) (func i) (body i) 0 false (memory i))) ∙ state_begun t fs (list_exec (over fs e) e h.body 0 false s)

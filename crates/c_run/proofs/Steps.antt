@@ -11,63 +11,59 @@ use Rattle.c_tree.specs.declared.value.Slot.{Slot}
 use Rattle.c_tree.specs.declared.value.Store.{Store}
 use Rattle.c_tree.specs.declared.value.Way.{Way}
 use Rattle.c_tree.specs.declared.value.Way.TheVariants as way
-use Rattle.c_tree.specs.Blocks.{list_blocks, is_simple}
-use Rattle.c_tree.specs.Statements.{Callee, Back, Gives, Lost, Outcome, Ends, Undefined, OverBound, after, then_do, turn_do, block, while_turns, entered, stored, simple, come_back, list_exec, exec, held}
-use Rattle.c_tree.specs.Runs.{back}
-use Rattle.c_tree.specs.Claims.{block_cost}
+use Rattle.c_tree.specs.Meaning.Blocks.{list_blocks, is_simple}
+use Rattle.c_tree.specs.Meaning.Statements.{Callee, Back, Gives, CallUndefined, CallOverBound, Outcome, Ends, Undefined, OverBound, after, then_do, turn_do, block, while_turns, entered_block, store_outcome, simple, come_back, list_exec, exec, held_stmts}
+use Rattle.c_tree.specs.Meaning.Runs.{back}
+use Rattle.c_tree.specs.Meaning.Claims.{block_cost}
 use Rattle.c_ways.specs.declared.loops.Loop.{Loop}
 use Rattle.c_run.specs.declared.machine.Task.{Task}
 use Rattle.c_run.specs.declared.machine.Pending.{Pending}
 use Rattle.c_run.specs.declared.machine.Machine.{Machine}
 use Rattle.c_run.specs.declared.machine.Given.{Given}
-use Rattle.c_ways.specs.Ways.{goes_on, past, returned}
-use Rattle.c_run.specs.Machine.{Waits, turns_of, turns, doing, behind, onward, state, ends_as, remains}
-use Rattle.c_run.specs.Work.{list_work, while_work, do_work, turn_work, task_work, pending_work, waiting_work, waiting, left}
+use Rattle.c_ways.specs.Ways.{has_next_turn, way_past_loop, way_result}
+use Rattle.c_run.specs.Machine.{Waits, limited_turns, loop_turns, task_outcome, pending_outcome, task_behind, machine_end, ends_as, remains}
+use Rattle.c_run.specs.Work.{list_work, while_work, do_work, turn_work, task_work, pending_work, waiting_work, machine_work, work_left}
 use Rattle.c_run.proofs.Remains.{state_entered, state_pushed}
+use Rattle.c_tree.proofs.Outcomes.{after_nothing}
 
 -- ---- a block is entered
 
-pub after_nothing : (o : Outcome) → after [] o ≡ o
-after_nothing (Ends t s w) = refl
-after_nothing Undefined = refl
-after_nothing OverBound = refl
-
-pub entered_as : (g : Given) (m : Machine) (c at : ℕ) (o : Outcome) → c ≡ (m.cost + block_cost g.costs.now (block m.func at)) % 2 ^ 128 → state g.costs.now g.program.now.funcs c m.pending.items o ≡ ends_as g m (after (block m.func at ∷ []) o)
+pub entered_as : (g : Given) (m : Machine) (c at : ℕ) (o : Outcome) → c ≡ (m.cost + block_cost g.costs.now (block m.func at)) % 2 ^ 128 → machine_end g.costs.now g.program.now.funcs c m.pending.items o ≡ ends_as g m (after (block m.func at ∷ []) o)
 entered_as g m c at o e =
     state_entered g.costs.now g.program.now.funcs m.cost c (block m.func at) m.pending.items o e
 
-pub run_entered : (g : Given) (m : Machine) (c at : ℕ) (run : Bool) (o : Outcome) → (run ≡ true → c ≡ m.cost) → (run ≡ false → c ≡ (m.cost + block_cost g.costs.now (block m.func at)) % 2 ^ 128) → state g.costs.now g.program.now.funcs c m.pending.items o ≡ ends_as g m (after (entered m.func at run) o)
+pub run_entered : (g : Given) (m : Machine) (c at : ℕ) (run : Bool) (o : Outcome) → (run ≡ true → c ≡ m.cost) → (run ≡ false → c ≡ (m.cost + block_cost g.costs.now (block m.func at)) % 2 ^ 128) → machine_end g.costs.now g.program.now.funcs c m.pending.items o ≡ ends_as g m (after (entered_block m.func at run) o)
 run_entered g m c at true o on begun =
-    ap (λ c. state g.costs.now g.program.now.funcs c m.pending.items o) (on refl) ∙ ap (ends_as g m) (sym (after_nothing o))
+    ap (λ c. machine_end g.costs.now g.program.now.funcs c m.pending.items o) (on refl) ∙ ap (ends_as g m) (sym (after_nothing o))
 run_entered g m c at false o on begun = entered_as g m c at o (begun refl)
 
 -- ---- one more waits
 
-pub pushed_as : (g : Given) (m m' : Machine) (p : Pending) (o : Outcome) → Waits m m' p → ends_as g m' o ≡ ends_as g m (behind g.program.now.funcs p o)
+pub pushed_as : (g : Given) (m m' : Machine) (p : Pending) (o : Outcome) → Waits m m' p → ends_as g m' o ≡ ends_as g m (pending_outcome g.program.now.funcs p o)
 pushed_as g m m' p o w =
     let t = g.costs.now in
     let fs = g.program.now.funcs in
-    ap (λ c. state t fs c m'.pending.items o) w.cost ∙ state_pushed t fs m.cost m.pending.items m'.pending.items p o w.pending
+    ap (λ c. machine_end t fs c m'.pending.items o) w.cost ∙ state_pushed t fs m.cost m.pending.items m'.pending.items p o w.pending
 
-pub pushed : (g : Given) (m m' : Machine) (p : Pending) (t : Task) → Waits m m' p → remains g m' t ≡ ends_as g m (behind g.program.now.funcs p (doing g.program.now.funcs m.func t m.memory))
+pub pushed : (g : Given) (m m' : Machine) (p : Pending) (t : Task) → Waits m m' p → remains g m' t ≡ ends_as g m (pending_outcome g.program.now.funcs p (task_outcome g.program.now.funcs m.func t m.memory))
 pushed g m m' p t w =
     let fs = g.program.now.funcs in
-    ap (λ f. ends_as g m' (doing fs f t m'.memory)) w.func ∙ ap (λ s. ends_as g m' (doing fs m.func t s)) w.memory ∙ pushed_as g m m' p (doing fs m.func t m.memory) w
+    ap (λ f. ends_as g m' (task_outcome fs f t m'.memory)) w.func ∙ ap (λ s. ends_as g m' (task_outcome fs m.func t s)) w.memory ∙ pushed_as g m m' p (task_outcome fs m.func t m.memory) w
 
 pub waiting_more : (fs : List Func) (ps : List Pending) (p : Pending) → waiting_work fs (ps ++ p ∷ []) ≡ waiting_work fs ps + pending_work fs p
 unfolding waiting_work
 waiting_more fs [] p = omega arith
 waiting_more fs (q ∷ ps) p = omega (arith, waiting_more fs ps p)
 
-pub pushed_waiting : (g : Given) (m m' : Machine) (p : Pending) → Waits m m' p → waiting g m' ≡ waiting g m + pending_work g.program.now.funcs p
+pub pushed_waiting : (g : Given) (m m' : Machine) (p : Pending) → Waits m m' p → machine_work g m' ≡ machine_work g m + pending_work g.program.now.funcs p
 pushed_waiting g m m' p w =
     let fs = g.program.now.funcs in
     ap (waiting_work fs) w.pending ∙ waiting_more fs m.pending.items p
 
-pub pushed_left : (g : Given) (m m' : Machine) (p : Pending) (t : Task) → Waits m m' p → left g m' t ≡ task_work g.program.now.funcs m.func t + (waiting g m + pending_work g.program.now.funcs p)
+pub pushed_left : (g : Given) (m m' : Machine) (p : Pending) (t : Task) → Waits m m' p → work_left g m' t ≡ task_work g.program.now.funcs m.func t + (machine_work g m + pending_work g.program.now.funcs p)
 pushed_left g m m' p t w =
     let fs = g.program.now.funcs in
-    ap (λ f. task_work fs f t + waiting g m') w.func ∙ ap (λ n. task_work fs m.func t + n) (pushed_waiting g m m' p w)
+    ap (λ f. task_work fs f t + machine_work g m') w.func ∙ ap (λ n. task_work fs m.func t + n) (pushed_waiting g m m' p w)
 
 -- ---- sums
 
@@ -87,20 +83,20 @@ do_less b w (suc k) n e = omega (arith, ap (λ n. n * (2 + b)) (same n k e))
 
 -- ---- ways
 
-pub then_onward : (fs : List Func) (f : ℕ) (w : Way) (t : Task) (s : Store) → then_do (Ends [] s w) (doing fs f t) ≡ doing fs f (onward w t) s
-unfolding doing
-then_onward fs f way.Next t s = after_nothing (doing fs f t s)
+pub then_onward : (fs : List Func) (f : ℕ) (w : Way) (t : Task) (s : Store) → then_do (Ends [] s w) (task_outcome fs f t) ≡ task_outcome fs f (task_behind w t) s
+unfolding task_outcome
+then_onward fs f way.Next t s = after_nothing (task_outcome fs f t s)
 then_onward fs f way.Break t s = refl
 then_onward fs f way.Continue t s = refl
 then_onward fs f (way.Return v) t s = refl
 
-pub turn_on : (w : Way) (s : Store) (go : Store → Outcome) → goes_on w ≡ true → turn_do (Ends [] s w) go ≡ go s
+pub turn_on : (w : Way) (s : Store) (go : Store → Outcome) → has_next_turn w ≡ true → turn_do (Ends [] s w) go ≡ go s
 turn_on way.Next s go e = after_nothing (go s)
 turn_on way.Continue s go e = after_nothing (go s)
 turn_on way.Break s go e = absurd cc
 turn_on (way.Return v) s go e = absurd cc
 
-pub turn_past : (w : Way) (s : Store) (go : Store → Outcome) → goes_on w ≡ false → turn_do (Ends [] s w) go ≡ Ends [] s (past w)
+pub turn_past : (w : Way) (s : Store) (go : Store → Outcome) → has_next_turn w ≡ false → turn_do (Ends [] s w) go ≡ Ends [] s (way_past_loop w)
 turn_past way.Next s go e = absurd cc
 turn_past way.Continue s go e = absurd cc
 turn_past way.Break s go e = refl
@@ -114,7 +110,7 @@ then_nothing (Ends t s (way.Return v)) = refl
 then_nothing Undefined = refl
 then_nothing OverBound = refl
 
-pub come_back_is : (t : Target) (r : Option Ty) (ls : List Slot) (s : Store) (w : Way) → come_back t (record { locals = ls; globals = [] }) (back r (Ends [] s w)) ≡ come_back t (record { locals = ls; globals = s.globals }) (Gives [] s.globals (returned r w))
+pub come_back_is : (t : Target) (r : Option Ty) (ls : List Slot) (s : Store) (w : Way) → come_back t (record { locals = ls; globals = [] }) (back r (Ends [] s w)) ≡ come_back t (record { locals = ls; globals = s.globals }) (Gives [] s.globals (way_result r w))
 come_back_is t r ls s way.Next = refl
 come_back_is t r ls s way.Break = refl
 come_back_is t r ls s way.Continue = refl
@@ -122,11 +118,12 @@ come_back_is t r ls s (way.Return v) = refl
 
 pub come_from : (t : Target) (s : Store) (b : Back) → come_back t (record { locals = s.locals; globals = [] }) b ≡ come_back t s b
 come_from t s (Gives u gs v) = refl
-come_from t s (Lost o) = refl
+come_from t s CallUndefined = refl
+come_from t s CallOverBound = refl
 
 -- ---- statements
 
-pub exec_plain : (cs : List Callee) (f : ℕ) (st : Stmt) (n : ℕ) (run : Bool) (s : Store) → is_simple st ≡ true → after (entered f n run) (stored (simple st s)) ≡ exec cs f st n run s
+pub exec_plain : (cs : List Callee) (f : ℕ) (st : Stmt) (n : ℕ) (run : Bool) (s : Store) → is_simple st ≡ true → after (entered_block f n run) (store_outcome (simple st s)) ≡ exec cs f st n run s
 unfolding exec
 exec_plain cs f Empty n run s e = refl
 exec_plain cs f (Scalar l e) n run s h = refl
@@ -142,7 +139,7 @@ exec_plain cs f (Do' k a x e) n run s h = absurd cc
 exec_plain cs f (For' k i e j a x) n run s h = absurd cc
 exec_plain cs f (Group' a x) n run s h = absurd cc
 
-pub onward_work : (fs : List Func) (f : ℕ) (w : Way) (t : Task) → task_work fs f (onward w t) ≤ task_work fs f t
+pub onward_work : (fs : List Func) (f : ℕ) (w : Way) (t : Task) → task_work fs f (task_behind w t) ≤ task_work fs f t
 unfolding task_work
 onward_work fs f way.Next t = omega arith
 onward_work fs f way.Break t = omega arith
@@ -151,11 +148,11 @@ onward_work fs f (way.Return v) t = omega arith
 
 -- ---- a `for`
 
-pub for_turns : (cs : List Callee) (f : ℕ) (l : Loop) (k n : ℕ) (e : Expr) (xs : List Stmt) (j : Option Stmt) → l.left ≡ k → l.condition.now ≡ e → l.body.now ≡ xs → l.at ≡ n → l.body_at ≡ n + 1 + list_blocks (held j) false → option_copied l.step ≡ j → turns cs f l ≡ while_turns k (block f n) e (list_exec cs f xs (n + 1 + list_blocks (held j) false) false) (list_exec cs f (held j) (n + 1) false)
-unfolding turns_of
-for_turns cs f l k n e xs j left condition body at body_at step =
-    λ i. while_turns (left i) (block f (at i)) (condition i) (list_exec cs f (body i) (body_at i) false) (list_exec cs f (held (step i)) (at i + 1) false)
+pub for_turns : (cs : List Callee) (f : ℕ) (l : Loop) (k n : ℕ) (e : Expr) (xs : List Stmt) (j : Option Stmt) → l.left ≡ k → l.condition.now ≡ e → l.body.now ≡ xs → l.at ≡ n → l.body_at ≡ n + 1 + list_blocks (held_stmts j) false → option_copied l.step ≡ j → loop_turns cs f l ≡ while_turns k (block f n) e (list_exec cs f xs (n + 1 + list_blocks (held_stmts j) false) false) (list_exec cs f (held_stmts j) (n + 1) false)
+unfolding limited_turns
+for_turns cs f l k n e xs j work_left condition body at body_at step =
+    λ i. while_turns (work_left i) (block f (at i)) (condition i) (list_exec cs f (body i) (body_at i) false) (list_exec cs f (held_stmts (step i)) (at i + 1) false)
 
-pub for_work : (ws : List ℕ) (l : Loop) (k : ℕ) (xs : List Stmt) (j : Option Stmt) → l.left ≡ k → l.body.now ≡ xs → option_copied l.step ≡ j → turn_work ws l l.left ≡ while_work k (list_work ws xs) (list_work ws (held j))
+pub for_work : (ws : List ℕ) (l : Loop) (k : ℕ) (xs : List Stmt) (j : Option Stmt) → l.left ≡ k → l.body.now ≡ xs → option_copied l.step ≡ j → turn_work ws l l.left ≡ while_work k (list_work ws xs) (list_work ws (held_stmts j))
 unfolding turn_work
-for_work ws l k xs j left body step = λ i. while_work (left i) (list_work ws (body i)) (list_work ws (held (step i)))
+for_work ws l k xs j work_left body step = λ i. while_work (work_left i) (list_work ws (body i)) (list_work ws (held_stmts (step i)))

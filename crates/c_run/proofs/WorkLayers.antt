@@ -8,7 +8,7 @@ use Rattle.c_tree.specs.declared.tree.Stmt.{Stmt}
 use Rattle.c_tree.specs.declared.tree.Stmt.TheVariants.{Empty, Scalar, Array, Assign, Call, Break, Continue, Return, If, While, Do, For, Group}
 use Rattle.c_tree.specs.declared.tree.Stmt.TheBlock.{shape-the_row-Stmt-0, hidden-the_row-Stmt-0, shape-the_row-Stmt-1, hidden-the_row-Stmt-1, back-Stmt-For-1}
 use denote.Hole.Carrier.{hidden}
-use Rattle.c_tree.specs.Statements.{held}
+use Rattle.c_tree.specs.Meaning.Statements.{held_stmts}
 use Rattle.c_run.specs.Work.{work_at, while_work, do_work, work, row_work, held_work, list_work}
 
 row_is : (ws : List ℕ) (xs : List Stmt) → row_work ws (hidden-the_row-Stmt-0 xs) ≡ list_work ws xs
@@ -16,7 +16,7 @@ unfolding work row_work shape-the_row-Stmt-0 hidden-the_row-Stmt-0 hidden
 row_is ws [] = refl
 row_is ws (x ∷ xs) = ap (λ n. 2 + work ws x + n) (row_is ws xs)
 
-held_is : (ws : List ℕ) (o : Option Stmt) → held_work ws (back-Stmt-For-1 o) ≡ list_work ws (held o)
+held_is : (ws : List ℕ) (o : Option Stmt) → held_work ws (back-Stmt-For-1 o) ≡ list_work ws (held_stmts o)
 unfolding work row_work held_work shape-the_row-Stmt-1 hidden-the_row-Stmt-1 hidden
 held_is ws None = refl
 held_is ws (Some a) = refl
@@ -65,7 +65,7 @@ pub work-Do : (ws : List ℕ) (k : ℕ) (xs : List Stmt) (e : Expr) → work ws 
 unfolding work
 work-Do ws k xs e = λ i. 1 + do_work k (row_is ws xs i)
 
-pub work-For : (ws : List ℕ) (k : ℕ) (a b : Option Stmt) (e : Expr) (xs : List Stmt) → work ws (For k a e b xs) ≡ 3 + list_work ws (held a) + while_work k (list_work ws xs) (list_work ws (held b))
+pub work-For : (ws : List ℕ) (k : ℕ) (a b : Option Stmt) (e : Expr) (xs : List Stmt) → work ws (For k a e b xs) ≡ 3 + list_work ws (held_stmts a) + while_work k (list_work ws xs) (list_work ws (held_stmts b))
 unfolding work
 work-For ws k a b e xs = λ i. 3 + held_is ws a i + while_work k (row_is ws xs i) (held_is ws b i)
 

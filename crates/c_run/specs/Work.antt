@@ -1,7 +1,21 @@
 -- How many tasks a run may still take up, at most: a number that falls at each.
 use Rattle.std.specs.Prelude.{ℕ, ◌+◌, ◌*◌, List, [], ◌∷◌, ◌++◌, take, slice_get, unwrap_or}
 use Rattle.c_tree.specs.declared.tree.Stmt.{Stmt, Row_of-Stmt, end_of-Stmt, more_of-Stmt, Held-Stmt-For-1, None', Some'}
-use Rattle.c_tree.specs.declared.tree.Stmt.TheVariants.{Empty, Scalar, Array, Assign, Call, Break, Continue, Return, If', While', Do', For', Group'}
+use Rattle.c_tree.specs.declared.tree.Stmt.TheVariants.{
+  Empty,
+  Scalar,
+  Array,
+  Assign,
+  Call,
+  Break,
+  Continue,
+  Return,
+  If',
+  While',
+  Do',
+  For',
+  Group',
+}
 use Rattle.c_tree.specs.declared.program.Func.{Func}
 use Rattle.c_ways.specs.declared.loops.Loop.{Loop}
 use Rattle.c_ways.specs.declared.loops.DoLoop.{DoLoop}
@@ -90,14 +104,14 @@ waiting_work fs [] = 0
 waiting_work fs (p ∷ ps) = pending_work fs p + waiting_work fs ps
 
 -- of what waits in the machine
-abbrev pub waiting : Given → Machine → ℕ
-waiting g m = waiting_work g.program.now.funcs m.pending.items
+abbrev pub machine_work : Given → Machine → ℕ
+machine_work g m = waiting_work g.program.now.funcs m.pending.items
 
 abbrev pub efforts : Given → Machine → List ℕ
 efforts g m = works_over g.program.now.funcs m.func
 
-abbrev pub left : Given → Machine → Task → ℕ
-left g m t = task_work g.program.now.funcs m.func t + waiting g m
+abbrev pub work_left : Given → Machine → Task → ℕ
+work_left g m t = task_work g.program.now.funcs m.func t + machine_work g m
 
 -- ---- what parts of a step take
 

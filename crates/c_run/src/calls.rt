@@ -1,11 +1,11 @@
 //! Calls (C11 6.5.2.2, 6.9.1), and what goes on behind the end of what was waited for.
 
 ghost use Rattle.std.specs.Prelude.{◌≡◌, ◌<◌, ◌+◌, option_copied, slice_get, take, IfOk};
-ghost use Rattle.c_tree.specs.Statements.{give};
+ghost use Rattle.c_tree.specs.Meaning.Statements.{give};
 ghost use Rattle.c_run.specs.Machine as machine;
 ghost use Rattle.c_run.specs.declared.machine.Given.{Given};
-ghost use Rattle.c_run.specs.Machine.{remains, ends_as, ComesTo, calling, called, resumed};
-ghost use Rattle.c_run.specs.Work.{work_at, efforts, waiting, left, callee_work, work_behind};
+ghost use Rattle.c_run.specs.Machine.{remains, ends_as, ComesTo, call_stmt_outcome, call_outcome, resumed_outcome};
+ghost use Rattle.c_run.specs.Work.{work_at, efforts, machine_work, work_left, callee_work, work_behind};
 
 use crate::machine::{Given, Machine, Pending, Task};
 use c_steps::all_values;
@@ -22,8 +22,10 @@ impl<'a> Machine<'a> {
         arguments: &[Expr],
         at: usize,
     ) -> Result<Task<'a>, NoMemory>
-        ensures same { IfOk result (λ t. ComesTo given.entry self.old self.new t (calling given.entry self.old target func arguments.now at)) }
-        ensures less { IfOk result (λ t. left given.entry self.new t < 2 + work_at (efforts given.entry self.old) func + waiting given.entry self.old) }
+        ensures same { IfOk result (λ t. ComesTo given.entry self.old self.new t (call_stmt_outcome given.entry
+            self.old target func arguments.now at)) }
+        ensures less { IfOk result (λ t. work_left given.entry self.new t < 2 + work_at (efforts given.entry self.old)
+            func + machine_work given.entry self.old) }
     {
         self.cost = with_block(self.cost, given.costs, self.func, at);
         unset_target(target, &mut self.memory);
@@ -45,8 +47,10 @@ impl<'a> Machine<'a> {
         target: Target,
         values: &[Value],
     ) -> Result<Task<'a>, NoMemory>
-        ensures same { IfOk result (λ t. ComesTo given.entry self.old self.new t (called given.entry self.old target func callee.now values.now)) }
-        ensures less { IfOk result (λ t. left given.entry self.new t < callee_work given.entry func callee.now + waiting given.entry self.old) }
+        ensures same { IfOk result (λ t. ComesTo given.entry self.old self.new t (call_outcome given.entry self.old
+            target func callee.now values.now)) }
+        ensures less { IfOk result (λ t. work_left given.entry self.new t < callee_work given.entry func callee.now
+            + machine_work given.entry self.old) }
     {
         let locals = entry_slots(given.alloc, callee.locals.as_slice(), values)?;
         let locals = self.memory.replace_locals(locals);
@@ -71,8 +75,10 @@ impl<'a> Machine<'a> {
         pending: Pending<'a>,
         way: Way,
     ) -> Result<Task<'a>, NoMemory>
-        ensures same { IfOk result (λ t. ComesTo given.entry self.old self.new t (resumed given.entry self.old pending.entry way)) }
-        ensures less { IfOk result (λ t. left given.entry self.new t < work_behind given.entry pending.entry + waiting given.entry self.old) }
+        ensures same { IfOk result (λ t. ComesTo given.entry self.old self.new t (resumed_outcome given.entry self.old
+            pending.entry way)) }
+        ensures less { IfOk result (λ t. work_left given.entry self.new t < work_behind given.entry pending.entry
+            + machine_work given.entry self.old) }
     {
         match pending {
             Pending::Rest {
@@ -111,8 +117,9 @@ impl<'a> Machine<'a> {
 
     // Puts a call's result where it goes.
     fn take_result(&mut self, target: Target, value: Option<Value>) -> Task<'a>
-        ensures same { (g : Given) → remains g self.new result ≡ ends_as g self.old (give target value self.old.memory) }
-        ensures less { (g : Given) → left g self.new result < 1 + waiting g self.old }
+        ensures same { (g : Given) → remains g self.new result ≡ ends_as g self.old (give target value self.old.memory)
+            }
+        ensures less { (g : Given) → work_left g self.new result < 1 + machine_work g self.old }
     {
         match target {
             Target::Nothing => Task::Ended(Way::Next),
@@ -123,8 +130,9 @@ impl<'a> Machine<'a> {
 
     // Assigns a call's result, which is undefined where there is none.
     fn assign(&mut self, var: Var, value: Option<Value>) -> Task<'a>
-        ensures same { (g : Given) → remains g self.new result ≡ ends_as g self.old (give (Target.Assign var) value self.old.memory) }
-        ensures less { (g : Given) → left g self.new result < 1 + waiting g self.old }
+        ensures same { (g : Given) → remains g self.new result
+            ≡ ends_as g self.old (give (Target.Assign var) value self.old.memory) }
+        ensures less { (g : Given) → work_left g self.new result < 1 + machine_work g self.old }
     {
         match value {
             None => Task::Undefined,
@@ -149,7 +157,7 @@ fn function_above(program: &Program, func: u32, below: u32) -> Option<&Func>
 
 // The task, or the end itself where a statement did not end with what comes next.
 fn onward<'a>(way: Way, task: Task<'a>) -> Task<'a>
-    ensures { result ≡ machine.onward way task.entry }
+    ensures { result ≡ machine.task_behind way task.entry }
 {
     match way {
         Way::Next => task,

@@ -1,10 +1,10 @@
 //! Loops (C11 6.8.5).
 
 ghost use Rattle.std.specs.Prelude.{◌≡◌, ◌<◌, ◌+◌, IfOk};
-ghost use Rattle.c_tree.specs.Statements.{held};
+ghost use Rattle.c_tree.specs.Meaning.Statements.{held_stmts};
 ghost use Rattle.c_run.specs.declared.machine.Given.{Given};
-ghost use Rattle.c_run.specs.Machine.{turns, remains, ComesTo, entering_loop, begun_for, resumed};
-ghost use Rattle.c_run.specs.Work.{waiting, left, begun_work, work_behind};
+ghost use Rattle.c_run.specs.Machine.{loop_turns, remains, ComesTo, entering_loop, begun_for, resumed_outcome};
+ghost use Rattle.c_run.specs.Work.{machine_work, work_left, begun_work, work_behind};
 
 use crate::machine::{Given, Machine, Pending, Task};
 use c_steps::condition;
@@ -15,8 +15,10 @@ use sqlite_items::Boxed;
 impl<'a> Machine<'a> {
     /// A `while` or a `for` from its condition on.
     pub(crate) fn turn(&mut self, given: Given<'a>, turns: Loop<'a>) -> Result<Task<'a>, NoMemory>
-        ensures same { IfOk result (λ t. remains given.entry self.new t ≡ remains given.entry self.old (Task.Turn turns.entry)) }
-        ensures less { IfOk result (λ t. left given.entry self.new t < left given.entry self.old (Task.Turn turns.entry)) }
+        ensures same { IfOk result (λ t. remains given.entry self.new t ≡ remains given.entry self.old
+            (Task.Turn loop_turns.entry)) }
+        ensures less { IfOk result (λ t. work_left given.entry self.new t < work_left given.entry self.old
+            (Task.Turn loop_turns.entry)) }
     {
         self.cost = with_block(self.cost, given.costs, self.func, turns.at);
         match condition(turns.condition, &self.memory) {
@@ -28,8 +30,10 @@ impl<'a> Machine<'a> {
 
     // Enters the body of a loop once more, if its bound allows it.
     fn enter_body(&mut self, turns: Loop<'a>) -> Result<Task<'a>, NoMemory>
-        ensures same { (g : Given) → IfOk result (λ t. ComesTo g self.old self.new t (entering_loop g self.old turns.entry)) }
-        ensures less { (g : Given) → IfOk result (λ t. left g self.new t < left g self.old (Task.Turn turns.entry)) }
+        ensures same { (g : Given)
+            → IfOk result (λ t. ComesTo g self.old self.new t (entering_loop g self.old loop_turns.entry)) }
+        ensures less { (g : Given) → IfOk result (λ t. work_left g self.new t < work_left g self.old
+            (Task.Turn loop_turns.entry)) }
     {
         if turns.left == 0 {
             return Ok(Task::OverBound);
@@ -48,8 +52,10 @@ impl<'a> Machine<'a> {
 
     /// A `do` from its body on.
     pub(crate) fn again(&mut self, turns: DoLoop<'a>) -> Result<Task<'a>, NoMemory>
-        ensures same { (g : Given) → IfOk result (λ t. remains g self.new t ≡ remains g self.old (Task.Again turns.entry)) }
-        ensures less { (g : Given) → IfOk result (λ t. left g self.new t < left g self.old (Task.Again turns.entry)) }
+        ensures same { (g : Given) → IfOk result (λ t. remains g self.new t
+            ≡ remains g self.old (Task.Again loop_turns.entry)) }
+        ensures less { (g : Given) → IfOk result (λ t. work_left g self.new t < work_left g self.old
+            (Task.Again loop_turns.entry)) }
     {
         if turns.left == 0 {
             return Ok(Task::OverBound);
@@ -73,8 +79,11 @@ impl<'a> Machine<'a> {
         ahead: Loop<'a>,
         at: usize,
     ) -> Result<Task<'a>, NoMemory>
-        ensures same { (g : Given) → IfOk result (λ t. ComesTo g self.old self.new t (begun_for g self.old (held initial.now) at ahead.entry)) }
-        ensures less { (g : Given) → IfOk result (λ t. left g self.new t < begun_work g self.old (held initial.now) ahead.entry + waiting g self.old) }
+        ensures same { (g : Given)
+            → IfOk result (λ t. ComesTo g self.old self.new t (begun_for g self.old (held_stmts initial.now) at
+            ahead.entry)) }
+        ensures less { (g : Given) → IfOk result (λ t. work_left g self.new t < begun_work g self.old
+            (held_stmts initial.now) ahead.entry + machine_work g self.old) }
     {
         match initial {
             None => Ok(Task::Turn(ahead)),
@@ -94,8 +103,11 @@ impl<'a> Machine<'a> {
 
     /// What follows the body of a `while` or a `for` that ended in this way.
     pub(crate) fn step(&mut self, turns: Loop<'a>, way: Way) -> Result<Task<'a>, NoMemory>
-        ensures same { (g : Given) → IfOk result (λ t. ComesTo g self.old self.new t (resumed g self.old (Pending.Step self.old.func turns.entry) way)) }
-        ensures less { (g : Given) → IfOk result (λ t. left g self.new t < work_behind g (Pending.Step self.old.func turns.entry) + waiting g self.old) }
+        ensures same { (g : Given)
+            → IfOk result (λ t. ComesTo g self.old self.new t
+            (resumed_outcome g self.old (Pending.Step self.old.func loop_turns.entry) way)) }
+        ensures less { (g : Given) → IfOk result (λ t. work_left g self.new t < work_behind g
+            (Pending.Step self.old.func loop_turns.entry) + machine_work g self.old) }
     {
         if !goes_on(way) {
             return Ok(Task::Ended(past(way)));
@@ -118,8 +130,10 @@ impl<'a> Machine<'a> {
 
     /// What follows the body of a `do` that ended in this way.
     pub(crate) fn do_test(&mut self, given: Given<'a>, turns: DoLoop<'a>, way: Way) -> Task<'a>
-        ensures same { ComesTo given.entry self.old self.new result (resumed given.entry self.old (Pending.DoTest self.old.func turns.entry) way) }
-        ensures less { left given.entry self.new result < work_behind given.entry (Pending.DoTest self.old.func turns.entry) + waiting given.entry self.old }
+        ensures same { ComesTo given.entry self.old self.new result (resumed_outcome given.entry self.old
+            (Pending.DoTest self.old.func loop_turns.entry) way) }
+        ensures less { work_left given.entry self.new result < work_behind given.entry
+            (Pending.DoTest self.old.func loop_turns.entry) + machine_work given.entry self.old }
     {
         if !goes_on(way) {
             return Task::Ended(past(way));

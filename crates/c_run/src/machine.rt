@@ -3,7 +3,7 @@
 
 ghost use Rattle.std.specs.Prelude.{◌≡◌, ◌<◌, true, [], IfOk, OnOk};
 ghost use Rattle.c_run.specs.Machine.{Waits, is_work, remains};
-ghost use Rattle.c_run.specs.Work.{left};
+ghost use Rattle.c_run.specs.Work.{work_left};
 
 use crate::run_end::RunEnd;
 use c_tree::{Costs, NoMemory, Program, Slot, Stmt, Target, Ty, Way};
@@ -125,7 +125,7 @@ impl<'a> Machine<'a> {
     fn work(&mut self, given: Given<'a>, task: Task<'a>) -> Result<Task<'a>, NoMemory>
         requires { is_work task ≡ true }
         ensures same { IfOk result (λ t. remains given.entry self.new t ≡ remains given.entry self.old task.entry) }
-        ensures less { IfOk result (λ t. left given.entry self.new t < left given.entry self.old task.entry) }
+        ensures less { IfOk result (λ t. work_left given.entry self.new t < work_left given.entry self.old task.entry) }
     {
         match task {
             Task::List { stmts, at, run } => self.list(stmts, at, run),

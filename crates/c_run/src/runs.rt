@@ -1,10 +1,10 @@
 //! The run of a program on an input.
 
 ghost use Rattle.std.specs.Prelude.{◌≡◌, IsTrue, IfOk};
-ghost use Rattle.c_tree.specs.Claims.{AreCostsOf};
-ghost use Rattle.c_tree.specs.Runs as spec;
-ghost use Rattle.c_run.specs.Ends.{ended};
-ghost use Rattle.c_run.specs.Machine.{entered};
+ghost use Rattle.c_tree.specs.Meaning.Claims.{AreCostsOf};
+ghost use Rattle.c_tree.specs.Meaning.Runs as spec;
+ghost use Rattle.c_run.specs.Ends.{end_of_run};
+ghost use Rattle.c_run.specs.Machine.{entry_run_end};
 
 use crate::machine::{Given, Machine, Task};
 use crate::run_end::RunEnd;
@@ -26,7 +26,7 @@ pub fn run(
 ) -> Result<RunEnd, NoMemory>
     requires costs { AreCostsOf program.now costs.now }
     requires fits { IsTrue (spec.fits program.now input.now) }
-    ensures end { IfOk result (λ e. e ≡ ended costs.now (spec.run program.now input.now)) }
+    ensures end { IfOk result (λ e. e ≡ end_of_run costs.now (spec.run program.now input.now)) }
 {
     program_is_well_formed(program);
     costs_of_runs_fit(program, costs);
@@ -45,7 +45,7 @@ pub fn run(
 
 // Runs the entry function of the program from this start.
 fn run_entry(given: Given, entry: &Func, start: Start) -> Result<RunEnd, NoMemory>
-    ensures { IfOk result (λ e. e ≡ entered given.entry entry.now start.arguments start.globals.items) }
+    ensures { IfOk result (λ e. e ≡ entry_run_end given.entry entry.now start.arguments start.globals.items) }
 {
     let program = given.program;
     let locals = entry_slots(

@@ -1,10 +1,10 @@
 //! Statements that are no loops and no calls (C11 6.8.2, 6.8.4, 6.8.6), and what a statement of each kind begins with.
 
 ghost use Rattle.std.specs.Prelude.{◌≡◌, ◌<◌, ◌+◌, [], ◌∷◌, IfOk};
-ghost use Rattle.c_tree.specs.Statements.{Ends, after, return_value, block};
+ghost use Rattle.c_tree.specs.Meaning.Statements.{Ends, after, return_value, block};
 ghost use Rattle.c_run.specs.declared.machine.Given.{Given};
 ghost use Rattle.c_run.specs.Machine.{remains, ComesTo, simple_from, chosen_list};
-ghost use Rattle.c_run.specs.Work.{waiting, left, choice_work};
+ghost use Rattle.c_run.specs.Work.{machine_work, work_left, choice_work};
 
 use crate::machine::{Given, Machine, Pending, Task};
 use c_semantics::is_simple;
@@ -23,8 +23,10 @@ impl<'a> Machine<'a> {
         at: usize,
         run: bool,
     ) -> Result<Task<'a>, NoMemory>
-        ensures same { (g : Given) → IfOk result (λ t. remains g self.new t ≡ remains g self.old (Task.List stmts.entry at run)) }
-        ensures less { (g : Given) → IfOk result (λ t. left g self.new t < left g self.old (Task.List stmts.entry at run)) }
+        ensures same { (g : Given) → IfOk result (λ t. remains g self.new t
+            ≡ remains g self.old (Task.List stmts.entry at run)) }
+        ensures less { (g : Given) → IfOk result (λ t. work_left g self.new t < work_left g self.old
+            (Task.List stmts.entry at run)) }
     {
         let Some((stmt, rest)) = stmts.split_first() else {
             return Ok(Task::Ended(Way::Next));
@@ -46,8 +48,10 @@ impl<'a> Machine<'a> {
         at: usize,
         run: bool,
     ) -> Result<Task<'a>, NoMemory>
-        ensures same { IfOk result (λ t. remains given.entry self.new t ≡ remains given.entry self.old (Task.One stmt.entry at run)) }
-        ensures less { IfOk result (λ t. left given.entry self.new t < left given.entry self.old (Task.One stmt.entry at run)) }
+        ensures same { IfOk result (λ t. remains given.entry self.new t ≡ remains given.entry self.old
+            (Task.One stmt.entry at run)) }
+        ensures less { IfOk result (λ t. work_left given.entry self.new t < work_left given.entry self.old
+            (Task.One stmt.entry at run)) }
     {
         match stmt {
             Stmt::Empty => self.plain(given, stmt, at, run),
@@ -90,8 +94,9 @@ impl<'a> Machine<'a> {
         at: usize,
         run: bool,
     ) -> Result<Task<'a>, NoMemory>
-        ensures same { IfOk result (λ t. ComesTo given.entry self.old self.new t (simple_from self.old stmt.now at run)) }
-        ensures less { IfOk result (λ t. left given.entry self.new t < 1 + waiting given.entry self.old) }
+        ensures same { IfOk result (λ t. ComesTo given.entry self.old self.new t (simple_from self.old stmt.now at
+            run)) }
+        ensures less { IfOk result (λ t. work_left given.entry self.new t < 1 + machine_work given.entry self.old) }
     {
         self.cost = with_run(self.cost, given.costs, self.func, at, run);
         if simple(given.alloc, stmt, &mut self.memory)? {
@@ -103,8 +108,9 @@ impl<'a> Machine<'a> {
 
     // A `break` or a `continue`.
     fn jump(&mut self, given: Given<'a>, at: usize, way: Way) -> Task<'a>
-        ensures same { ComesTo given.entry self.old self.new result (Ends (block self.old.func at ∷ []) self.old.memory way) }
-        ensures less { left given.entry self.new result < 1 + waiting given.entry self.old }
+        ensures same { ComesTo given.entry self.old self.new result (Ends (block self.old.func at ∷ []) self.old.memory
+            way) }
+        ensures less { work_left given.entry self.new result < 1 + machine_work given.entry self.old }
     {
         self.cost = with_block(self.cost, given.costs, self.func, at);
         Task::Ended(way)
@@ -112,8 +118,9 @@ impl<'a> Machine<'a> {
 
     // A `return`.
     fn leave(&mut self, given: Given<'a>, e: &Option<Expr>, at: usize) -> Task<'a>
-        ensures same { ComesTo given.entry self.old self.new result (after (block self.old.func at ∷ []) (return_value e.now self.old.memory)) }
-        ensures less { left given.entry self.new result < 1 + waiting given.entry self.old }
+        ensures same { ComesTo given.entry self.old self.new result (after (block self.old.func at ∷ [])
+            (return_value e.now self.old.memory)) }
+        ensures less { work_left given.entry self.new result < 1 + machine_work given.entry self.old }
     {
         self.cost = with_block(self.cost, given.costs, self.func, at);
         match e {
@@ -134,8 +141,10 @@ impl<'a> Machine<'a> {
         second: &'a [Stmt],
         at: usize,
     ) -> Result<Task<'a>, NoMemory>
-        ensures same { IfOk result (λ t. ComesTo given.entry self.old self.new t (chosen_list given.entry self.old e.now first.now second.now at)) }
-        ensures less { IfOk result (λ t. left given.entry self.new t < choice_work given.entry self.old first.now second.now + waiting given.entry self.old) }
+        ensures same { IfOk result (λ t. ComesTo given.entry self.old self.new t (chosen_list given.entry self.old
+            e.now first.now second.now at)) }
+        ensures less { IfOk result (λ t. work_left given.entry self.new t < choice_work given.entry self.old first.now
+            second.now + machine_work given.entry self.old) }
     {
         self.cost = with_block(self.cost, given.costs, self.func, at);
         match condition(e, &self.memory) {

@@ -2,14 +2,14 @@
 
 ghost use Rattle.std.specs.Prelude.{◌≡◌, ◌+◌, ◌<◌, ◌^◌, false};
 ghost use Rattle.std.specs.Option.{SomeIff};
-ghost use Rattle.c_tree.specs.Blocks.{is_simple, begun, blocks, list_blocks};
-ghost use Rattle.c_tree.specs.Statements.{held};
+ghost use Rattle.c_tree.specs.Meaning.Blocks.{is_simple, begun_blocks, blocks, list_blocks};
+ghost use Rattle.c_tree.specs.Meaning.Statements.{held_stmts};
 
 use c_tree::Stmt;
 use sqlite_items::Boxed;
 
-/// Whether a statement is simple: an empty one, a declaration without a call (C11 6.7), or an assignment (C11 6.5.16). Simple
-/// statements that follow each other in a list are one block.
+/// Whether a statement is simple: an empty one, a declaration without a call (C11 6.7), or an assignment (C11 6.5.16).
+/// Simple statements that follow each other in a list are one block.
 pub fn is_simple(stmt: &Stmt) -> bool
     ensures { result ≡ is_simple stmt.now }
 {
@@ -21,7 +21,7 @@ pub fn is_simple(stmt: &Stmt) -> bool
 
 // How many blocks a simple statement begins.
 fn begun(goes_on: bool) -> usize
-    ensures { result ≡ begun goes_on }
+    ensures { result ≡ begun_blocks goes_on }
 {
     if goes_on { 0 } else { 1 }
 }
@@ -38,7 +38,7 @@ fn for_blocks(initialiser: usize, step: usize, body: usize) -> Option<usize>
 
 // How many blocks begin at a statement; `goes_on` tells that a simple statement stands before it in its list.
 #[cycle(blocks)]
-#[tactic(auto, using(c_tree::proofs::ExecLayers::exec_layers))]
+#[tactic(auto, using(c_tree::proofs::Layers::ExecLayers::exec_layers))]
 fn blocks(stmt: &Stmt, goes_on: bool) -> Option<usize>
     ensures { SomeIff result (blocks stmt.now goes_on < 2 ^ 64) (blocks stmt.now goes_on) }
 {
@@ -64,7 +64,8 @@ fn blocks(stmt: &Stmt, goes_on: bool) -> Option<usize>
 // The same of an initialiser or a step.
 #[cycle(blocks)]
 fn held_blocks(stmt: &Option<Boxed<Stmt>>) -> Option<usize>
-    ensures { SomeIff result (list_blocks (held stmt.now) false < 2 ^ 64) (list_blocks (held stmt.now) false) }
+    ensures { SomeIff result (list_blocks (held_stmts stmt.now) false < 2 ^ 64) (list_blocks (held_stmts stmt.now)
+        false) }
 {
     match stmt {
         None => Some(0),
@@ -72,8 +73,8 @@ fn held_blocks(stmt: &Option<Boxed<Stmt>>) -> Option<usize>
     }
 }
 
-/// How many blocks a list of statements has (C11 6.8): runs of simple statements, controlling expressions, initialisers and
-/// steps of a `for`, calls and jumps. None exactly where a `usize` does not hold the number.
+/// How many blocks a list of statements has (C11 6.8): runs of simple statements, controlling expressions,
+/// initialisers and steps of a `for`, calls and jumps. None exactly where a `usize` does not hold the number.
 #[cycle(blocks)]
 pub fn list_blocks(list: &[Stmt]) -> Option<usize>
     ensures { SomeIff result (list_blocks list.now false < 2 ^ 64) (list_blocks list.now false) }

@@ -2,9 +2,9 @@
 
 ghost use Rattle.std.specs.Prelude.{◌≡◌, ◌<◌, ℤ, SomeIff, FitsSigned};
 ghost use Rattle.std.specs.Int.{w32};
-ghost use Rattle.c_tree.specs.Operators as spec;
+ghost use Rattle.c_tree.specs.Meaning.Operators as spec;
 
-use crate::values::{common, is_true, of_word, truth, ty_of, word, zero_of};
+use crate::values::{common, is_nonzero, of_word, truth, ty_of, word, zero_of};
 use c_tree::{BinOp, UnOp, Value};
 
 // An `int`, where the number is one.
@@ -174,7 +174,7 @@ fn bit_xor(a: Value, b: Value) -> Option<Value>
 
 // The count of a shift, where it is 0 to 31.
 fn count(v: Value) -> Option<u32>
-    ensures { result ≡ spec.count v }
+    ensures { result ≡ spec.shift_count v }
 {
     let n = match v {
         Value::Int(z) => {
@@ -232,8 +232,9 @@ fn shift_right(a: Value, b: Value) -> Option<Value>
     shifted_right(a, k)
 }
 
-/// A binary operator on two values (C11 6.5.5 to 6.5.12). None where the result is undefined: it leaves the range of `int`, a
-/// divisor is 0, or a shift is none of 6.5.7; and for `&&` and `||`, which may go by one operand alone (`operated`).
+/// A binary operator on two values (C11 6.5.5 to 6.5.12). None where the result is undefined: it leaves the range of
+/// `int`, a divisor is 0, or a shift is none of 6.5.7; and for `&&` and `||`, which may go by one operand alone
+/// (`operated`).
 pub fn binary(op: BinOp, a: Value, b: Value) -> Option<Value>
     ensures { result ≡ spec.binary op a b }
 {
@@ -266,7 +267,7 @@ pub fn unary(op: UnOp, a: Value) -> Option<Value>
         UnOp::Plus => Some(a),
         UnOp::Minus => difference(zero_of(ty_of(a)), a),
         UnOp::Flip => Some(of_word(ty_of(a), u32::MAX - word(a))),
-        UnOp::Not => Some(truth(!is_true(a))),
+        UnOp::Not => Some(truth(!is_nonzero(a))),
     }
 }
 
@@ -274,8 +275,8 @@ pub fn unary(op: UnOp, a: Value) -> Option<Value>
 fn both(a: Option<Value>, b: Option<Value>) -> Option<Value>
     ensures { result ≡ spec.both a b }
 {
-    if is_true(a?) {
-        Some(truth(is_true(b?)))
+    if is_nonzero(a?) {
+        Some(truth(is_nonzero(b?)))
     } else {
         Some(truth(false))
     }
@@ -285,17 +286,18 @@ fn both(a: Option<Value>, b: Option<Value>) -> Option<Value>
 fn either(a: Option<Value>, b: Option<Value>) -> Option<Value>
     ensures { result ≡ spec.either a b }
 {
-    if is_true(a?) {
+    if is_nonzero(a?) {
         Some(truth(true))
     } else {
-        Some(truth(is_true(b?)))
+        Some(truth(is_nonzero(b?)))
     }
 }
 
-/// A binary operator on operands of which each may be undefined (C11 6.5.5 to 6.5.14). None where an operand that counts is
-/// undefined or the result is: of `&&` and `||` the right operand counts only where the left one does not decide.
+/// A binary operator on operands of which each may be undefined (C11 6.5.5 to 6.5.14). None where an operand that
+/// counts is undefined or the result is: of `&&` and `||` the right operand counts only where the left one does not
+/// decide.
 pub fn operated(op: BinOp, a: Option<Value>, b: Option<Value>) -> Option<Value>
-    ensures { result ≡ spec.operated op a b }
+    ensures { result ≡ spec.operation_value op a b }
 {
     match op {
         BinOp::Both => both(a, b),

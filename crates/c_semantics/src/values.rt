@@ -1,7 +1,7 @@
 //! Types, conversion and truth of values (C11 6.2.5, 6.3.1.3, 6.3.1.8).
 
 ghost use Rattle.std.specs.Prelude.{◌≡◌};
-ghost use Rattle.c_tree.specs.Values as spec;
+ghost use Rattle.c_tree.specs.Meaning.Values as spec;
 
 use c_tree::{Ty, Value};
 
@@ -68,7 +68,8 @@ pub fn convert(ty: Ty, v: Value) -> Value
     }
 }
 
-/// The `int` 1 or 0 that is the result of a relation or of `!`, `&&` and `||` (C11 6.5.3.3, 6.5.8, 6.5.9, 6.5.13, 6.5.14).
+/// The `int` 1 or 0 that is the result of a relation or of `!`, `&&` and `||` (C11 6.5.3.3, 6.5.8, 6.5.9, 6.5.13,
+/// 6.5.14).
 pub fn truth(b: bool) -> Value
     ensures { result ≡ spec.truth b }
 {
@@ -76,8 +77,8 @@ pub fn truth(b: bool) -> Value
 }
 
 /// Whether a condition holds that has this value: it is not 0 (C11 6.8.4.1, 6.8.5).
-pub fn is_true(v: Value) -> bool
-    ensures { result ≡ spec.is_true v }
+pub fn is_nonzero(v: Value) -> bool
+    ensures { result ≡ spec.is_nonzero v }
 {
     match v {
         Value::Int(z) => z != 0,

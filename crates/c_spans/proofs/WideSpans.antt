@@ -8,32 +8,19 @@ use Rattle.c_tree.specs.declared.unit.RawExpr.{RawExpr}
 use Rattle.c_tree.specs.declared.unit.RawShape.{RawShape}
 use Rattle.c_tree.specs.declared.unit.RawTop.{RawTop}
 use Rattle.c_tree.specs.declared.unit.RawTop.TheVariants as top
-use Rattle.c_tree.specs.Refusals.{Span, where_true, wide}
-use Rattle.c_spans.specs.Capped.{capped}
+use Rattle.c_tree.specs.Checking.Refusals.{Span, where_true, wide_func_faults}
+use Rattle.c_spans.specs.Capped.{capped_span}
 
 lt_min : (s c : ℕ) → nat_lt c (min s (c + 1)) ≡ nat_lt c s
 lt_min s c = grind (arith, nat_tests)
 
-lt_capped : (s : ℕ) → nat_lt (2 ^ 64) (capped s) ≡ nat_lt (2 ^ 64) s
-unfolding capped
+lt_capped : (s : ℕ) → nat_lt (2 ^ 64) (capped_span s) ≡ nat_lt (2 ^ 64) s
+unfolding capped_span
 lt_capped s = lt_min s (2 ^ 64)
 
-pub wide-capped : (ss : List ℕ) (ts : List RawTop) → wide (map capped ss) ts ≡ wide ss ts
-wide-capped ss [] = refl
-wide-capped [] (t ∷ ts) = refl
-wide-capped (s ∷ ss) (top.Func g ∷ ts) = λ i. where_true (lt_capped s i) Span g.spot.at ++ wide-capped ss ts i
-wide-capped (s ∷ ss) (top.Outer constant t x e ∷ ts) = wide-capped (s ∷ ss) ts
-wide-capped (s ∷ ss) (top.Global kept constant t x sh ∷ ts) = wide-capped (s ∷ ss) ts
-
--- a declaration that is no function has no span
-wide_none : (ts : List RawTop) → wide [] ts ≡ []
-wide_none [] = refl
-wide_none (t ∷ ts) = refl
-
-pub wide-Outer : (ss : List ℕ) (constant : Bool) (t : Ty) (x : Spot) (e : Option RawExpr) (ts : List RawTop) → wide ss (top.Outer constant t x e ∷ ts) ≡ wide ss ts
-wide-Outer [] constant t x e ts = sym (wide_none ts)
-wide-Outer (s ∷ ss) constant t x e ts = refl
-
-pub wide-Global : (ss : List ℕ) (kept constant : Bool) (t : Ty) (x : Spot) (sh : RawShape) (ts : List RawTop) → wide ss (top.Global kept constant t x sh ∷ ts) ≡ wide ss ts
-wide-Global [] kept constant t x sh ts = sym (wide_none ts)
-wide-Global (s ∷ ss) kept constant t x sh ts = refl
+pub wide_func_faults-capped : (ss : List ℕ) (ts : List RawTop) → wide_func_faults (map capped_span ss) ts ≡ wide_func_faults ss ts
+wide_func_faults-capped ss [] = refl
+wide_func_faults-capped [] (t ∷ ts) = refl
+wide_func_faults-capped (s ∷ ss) (top.Func g ∷ ts) = λ i. where_true (lt_capped s i) Span g.spot.at ++ wide_func_faults-capped ss ts i
+wide_func_faults-capped (s ∷ ss) (top.Outer constant t x e ∷ ts) = wide_func_faults-capped (s ∷ ss) ts
+wide_func_faults-capped (s ∷ ss) (top.Global kept constant t x sh ∷ ts) = wide_func_faults-capped (s ∷ ss) ts

@@ -1,9 +1,9 @@
 //! The spans of functions, up to the greatest that is told apart.
 
 ghost use Rattle.std.specs.Prelude.{◌≡◌, ◌+◌, ◌*◌, [], map, false, IfOk};
-ghost use Rattle.c_tree.specs.Statements.{held};
-ghost use Rattle.c_tree.specs.Spans.{span, list_span, span_at, begun_span, spans};
-ghost use Rattle.c_spans.specs.Capped.{capped, capped_spans};
+ghost use Rattle.c_tree.specs.Meaning.Statements.{held_stmts};
+ghost use Rattle.c_tree.specs.Meaning.Spans.{span, list_span, span_at, begun_span, spans};
+ghost use Rattle.c_spans.specs.Capped.{capped_span, capped_spans};
 
 use c_semantics::is_simple;
 use c_tree::{Func, NoMemory, Stmt};
@@ -14,30 +14,30 @@ use std::alloc::Global;
 const CAP: u128 = 18_446_744_073_709_551_617;
 
 // A number up to the cap.
-#[tactic(auto, unfolding(crate::specs::Capped::capped))]
+#[tactic(auto, unfolding(crate::specs::Capped::capped_span))]
 fn cut(n: u128) -> u128
-    ensures { result ≡ capped n }
+    ensures { result ≡ capped_span n }
 {
     n.min(CAP)
 }
 
-#[tactic(auto, unfolding(crate::specs::Capped::capped))]
+#[tactic(auto, unfolding(crate::specs::Capped::capped_span))]
 fn sum(a: u128, b: u128) -> u128
-    ensures { result ≡ capped (a + b) }
+    ensures { result ≡ capped_span (a + b) }
 {
     a.saturating_add(b).min(CAP)
 }
 
-#[tactic(auto, unfolding(crate::specs::Capped::capped))]
+#[tactic(auto, unfolding(crate::specs::Capped::capped_span))]
 fn product(a: u128, b: u128) -> u128
-    ensures { result ≡ capped (a * b) }
+    ensures { result ≡ capped_span (a * b) }
 {
     a.saturating_mul(b).min(CAP)
 }
 
 #[tactic(auto, using(crate::proofs::CappedSpans::capped_layers))]
 fn begun(k: u128, run: bool) -> u128
-    ensures { result ≡ capped (begun_span k run) }
+    ensures { result ≡ capped_span (begun_span k run) }
 {
     if run { 0 } else { cut(k) }
 }
@@ -45,7 +45,7 @@ fn begun(k: u128, run: bool) -> u128
 // A call in scale k: its block, and the span of a function above.
 #[tactic(auto, using(crate::proofs::CappedSpans::capped_layers))]
 fn call(above: &[u128], k: u128, callee: u32) -> u128
-    ensures { result ≡ capped (k + k * span_at above.now callee) }
+    ensures { result ≡ capped_span (k + k * span_at above.now callee) }
 {
     match above.get(callee as usize) {
         Some(span) => sum(k, product(k, *span)),
@@ -56,7 +56,7 @@ fn call(above: &[u128], k: u128, callee: u32) -> u128
 #[cycle(spans)]
 #[tactic(auto, using(crate::proofs::CappedSpans::capped_layers))]
 fn list_span(above: &[u128], k: u128, stmts: &[Stmt]) -> u128
-    ensures { result ≡ capped (list_span above.now k stmts.now false) }
+    ensures { result ≡ capped_span (list_span above.now k stmts.now false) }
 {
     let mut total = 0;
     let mut run = false;
@@ -70,7 +70,7 @@ fn list_span(above: &[u128], k: u128, stmts: &[Stmt]) -> u128
 #[cycle(spans)]
 #[tactic(auto, using(crate::proofs::CappedSpans::capped_layers))]
 fn held_span(above: &[u128], k: u128, stmt: &Option<Boxed<Stmt>>) -> u128
-    ensures { result ≡ capped (list_span above.now k (held stmt.now) false) }
+    ensures { result ≡ capped_span (list_span above.now k (held_stmts stmt.now) false) }
 {
     match stmt {
         None => 0,
@@ -81,7 +81,7 @@ fn held_span(above: &[u128], k: u128, stmt: &Option<Boxed<Stmt>>) -> u128
 #[cycle(spans)]
 #[tactic(auto, using(crate::proofs::CappedSpans::capped_layers))]
 fn span(above: &[u128], k: u128, stmt: &Stmt, run: bool) -> u128
-    ensures { result ≡ capped (span above.now k stmt.now run) }
+    ensures { result ≡ capped_span (span above.now k stmt.now run) }
 {
     match stmt {
         Stmt::Empty => begun(k, run),
@@ -137,7 +137,7 @@ fn capped_spans(alloc: Global, funcs: &[Func]) -> Result<Vec<u128>, NoMemory>
 /// 2^64. It fails for want of memory alone.
 #[tactic(auto, using(crate::proofs::CappedSpans::spans_capped))]
 pub fn function_spans(alloc: Global, funcs: &[Func]) -> Result<Vec<u128>, NoMemory>
-    ensures { IfOk result (λ v. v.items ≡ map capped (spans [] funcs.now)) }
+    ensures { IfOk result (λ v. v.items ≡ map capped_span (spans [] funcs.now)) }
 {
     capped_spans(alloc, funcs)
 }

@@ -1,11 +1,11 @@
 //! The type and the value of an expression in a store (C11 6.5).
 
 ghost use Rattle.std.specs.Prelude.{◌≡◌, option_copied, option_map};
-ghost use Rattle.c_tree.specs.Values as values;
-ghost use Rattle.c_tree.specs.Stores as stores;
-ghost use Rattle.c_tree.specs.Expressions as spec;
+ghost use Rattle.c_tree.specs.Meaning.Values as values;
+ghost use Rattle.c_tree.specs.Meaning.Stores as stores;
+ghost use Rattle.c_tree.specs.Meaning.Expressions as spec;
 
-use c_semantics::{bin_ty, common, convert, is_true, of_word, operated, un_ty, unary};
+use c_semantics::{bin_ty, common, convert, is_nonzero, of_word, operated, un_ty, unary};
 use c_tree::{Expr, Slot, Ty, Value};
 use c_ways::{Memory, slot_ty};
 
@@ -38,7 +38,7 @@ pub(crate) fn number_at(slot: Option<&Slot>, at: u32) -> Option<Value>
     }
 }
 
-#[tactic(auto, using(c_tree::proofs::ValLayers::val_layers))]
+#[tactic(auto, using(c_tree::proofs::Layers::ValLayers::val_layers))]
 fn type_of(e: &Expr, s: &Memory) -> Ty
     ensures { result ≡ spec.type_of e.now s.now }
 {
@@ -55,7 +55,7 @@ fn type_of(e: &Expr, s: &Memory) -> Ty
 
 /// The value of an expression, or None where it is undefined. No value changes a store, so the right operand of `&&`
 /// and `||` is evaluated also where it does not count.
-#[tactic(auto, using(c_tree::proofs::ValLayers::val_layers))]
+#[tactic(auto, using(c_tree::proofs::Layers::ValLayers::val_layers))]
 pub fn value(e: &Expr, s: &Memory) -> Option<Value>
     ensures { result ≡ spec.val e.now s.now }
 {
@@ -71,7 +71,7 @@ pub fn value(e: &Expr, s: &Memory) -> Option<Value>
         Expr::Bin(op, a, b) => operated(*op, value(a.get(), s), value(b.get(), s)),
         Expr::Cond(c, a, b) => {
             let ty = common(type_of(a.get(), s), type_of(b.get(), s));
-            if is_true(value(c.get(), s)?) {
+            if is_nonzero(value(c.get(), s)?) {
                 Some(convert(ty, value(a.get(), s)?))
             } else {
                 Some(convert(ty, value(b.get(), s)?))
@@ -82,7 +82,7 @@ pub fn value(e: &Expr, s: &Memory) -> Option<Value>
 
 /// Whether a condition holds, or None where it is undefined.
 pub fn condition(e: &Expr, s: &Memory) -> Option<bool>
-    ensures { result ≡ option_map values.is_true (spec.val e.now s.now) }
+    ensures { result ≡ option_map values.is_nonzero (spec.val e.now s.now) }
 {
-    Some(is_true(value(e, s)?))
+    Some(is_nonzero(value(e, s)?))
 }

@@ -1,10 +1,10 @@
 //! Simple statements: declarations without a call, and assignments (C11 6.7.9, 6.5.16).
 
 ghost use Rattle.std.specs.Prelude.{◌≡◌, option_copied, option_and_then, IfOk};
-ghost use Rattle.c_tree.specs.Stores as stores;
-ghost use Rattle.c_tree.specs.Expressions as expressions;
-ghost use Rattle.c_tree.specs.Statements as spec;
-ghost use Rattle.c_ways.specs.Changed.{changed};
+ghost use Rattle.c_tree.specs.Meaning.Stores as stores;
+ghost use Rattle.c_tree.specs.Meaning.Expressions as expressions;
+ghost use Rattle.c_tree.specs.Meaning.Statements as spec;
+ghost use Rattle.c_ways.specs.Changed.{store_if_changed};
 
 use crate::expressions::{index, number_at, number_in, value};
 use c_semantics::operated;
@@ -36,7 +36,7 @@ fn assigned_value(place: &Place, op: &Option<BinOp>, e: &Expr, memory: &Memory) 
 }
 
 fn assign_at(place: &Place, v: Value, memory: &mut Memory) -> bool
-    ensures { changed result memory.new ≡ spec.assign_at place.now v memory.old }
+    ensures { store_if_changed result memory.new ≡ spec.assign_at place.now v memory.old }
 {
     match place {
         Place::Scalar(x) => {
@@ -58,7 +58,8 @@ fn place_of(i: &Expr, memory: &Memory) -> Option<u32>
 }
 
 fn assign(place: &Place, op: &Option<BinOp>, e: &Expr, memory: &mut Memory) -> bool
-    ensures { changed result memory.new ≡ option_and_then (λ v. spec.assign_at place.now v memory.old) (spec.assigned_value place.now op.now e.now memory.old) }
+    ensures { store_if_changed result memory.new ≡ option_and_then (λ v. spec.assign_at place.now v memory.old)
+        (spec.assigned_value place.now op.now e.now memory.old) }
 {
     match assigned_value(place, op, e, memory) {
         None => false,
@@ -85,7 +86,7 @@ pub fn all_values(
 }
 
 fn array_length(slot: Option<&Slot>) -> usize
-    ensures { result ≡ stores.array_length (option_copied slot.entry) }
+    ensures { result ≡ stores.slot_length (option_copied slot.entry) }
 {
     match slot {
         Some(Slot::Numbers(_, vs)) => vs.len(),
@@ -95,7 +96,7 @@ fn array_length(slot: Option<&Slot>) -> usize
 
 /// The declaration of a scalar, which makes it unset before its initialiser is evaluated.
 fn declare(local: u32, initial: &Option<Expr>, memory: &mut Memory) -> bool
-    ensures { changed result memory.new ≡ spec.simple (Stmt.Scalar local initial.now) memory.old }
+    ensures { store_if_changed result memory.new ≡ spec.simple (Stmt.Scalar local initial.now) memory.old }
 {
     memory.unset(local);
     match initial {
@@ -117,7 +118,7 @@ fn declare_array(
     exprs: &[Expr],
     memory: &mut Memory,
 ) -> Result<bool, NoMemory>
-    ensures { IfOk result (λ d. changed d memory.new ≡ spec.simple (Stmt.Array local exprs.now) memory.old) }
+    ensures { IfOk result (λ d. store_if_changed d memory.new ≡ spec.simple (Stmt.Array local exprs.now) memory.old) }
 {
     let slot = memory.slot(Var::Local(local));
     let ty = slot_ty(slot);
@@ -135,7 +136,7 @@ fn declare_array(
 
 /// Does a simple statement, and tells whether it is defined.
 pub fn simple(alloc: Global, stmt: &Stmt, memory: &mut Memory) -> Result<bool, NoMemory>
-    ensures { IfOk result (λ d. changed d memory.new ≡ spec.simple stmt.now memory.old) }
+    ensures { IfOk result (λ d. store_if_changed d memory.new ≡ spec.simple stmt.now memory.old) }
 {
     match stmt {
         Stmt::Empty => Ok(true),

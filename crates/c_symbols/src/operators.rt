@@ -1,7 +1,7 @@
 //! How expressions go on, and how tightly operators bind (C11 6.5).
 
 ghost use Rattle.std.specs.Prelude.{◌≡◌};
-ghost use Rattle.c_tree.specs.SpelledExpressions as grammar;
+ghost use Rattle.c_tree.specs.Grammar.SpelledExpressions as grammar;
 ghost use Rattle.parse_laws.specs.Going as reading;
 
 use c_tree::{BinOp, Symbol, UnOp};
@@ -9,7 +9,7 @@ use parse_laws::Next;
 
 /// How an expression goes on with the symbol.
 pub fn next_of(symbol: Option<Symbol>) -> Next
-    ensures { result ≡ reading.next_of symbol }
+    ensures { result ≡ reading.next_for symbol }
 {
     match symbol {
         Some(Symbol::Question) => Next::Ask,

@@ -1,7 +1,7 @@
 //! Which word or mark of the grammar a token is.
 
 ghost use Rattle.std.specs.Prelude.{◌≡◌, ℕ, List, map};
-ghost use Rattle.c_tree.specs.Symbols as spec;
+ghost use Rattle.c_tree.specs.Tokens.Symbols as spec;
 
 use c_tree::{BinOp, Kind, Symbol, Ty};
 
@@ -84,13 +84,13 @@ fn look_up(table: &[(&[u8], Symbol)], spelling: &[u8]) -> Symbol
 }
 
 fn word(spelling: &[u8]) -> Symbol
-    ensures { result ≡ spec.look_up spec.words spelling.now }
+    ensures { result ≡ spec.look_up spec.keyword_symbols spelling.now }
 {
     look_up(&WORDS, spelling)
 }
 
 fn mark(spelling: &[u8]) -> Symbol
-    ensures { result ≡ spec.look_up spec.marks spelling.now }
+    ensures { result ≡ spec.look_up spec.mark_symbols spelling.now }
 {
     look_up(&MARKS, spelling)
 }
@@ -110,7 +110,7 @@ pub fn symbol_of(kind: Kind, spelling: &[u8]) -> Symbol
 
 /// The type and the value of an integer constant; `int` and 0 for any other token.
 pub fn constant_of(kind: Kind) -> (Ty, u32)
-    ensures ty { result.0 ≡ spec.type_of kind }
+    ensures ty { result.0 ≡ spec.constant_type kind }
     ensures value { (bytes : List ℕ) → spec.symbol_of kind bytes ≡ Symbol.Number → result.1 ≡ spec.value_of kind }
 {
     match kind {

@@ -3,17 +3,18 @@ use Rattle.std.proofs.Common.{◌≡◌, ℕ, zero, suc, Bool, true, false, ◌&
 use Rattle.std.specs.Prelude.{bytes_eq}
 use Rattle.std.specs.List.{list_all, after_last}
 use Rattle.std.proofs.lemmas.Bool.Decides.{nat_tests}
-use Rattle.c_tree.specs.Characters.{begins, begins_with, is_blank, is_space_or_tab, is_line_feed, is_digit, is_nondigit}
-use Rattle.c_tree.specs.Lexemes.{is_among, marks, is_name, is_number_run, could_be_token}
-use Rattle.c_tree.specs.Lexing.{opens_block_comment, opens_line_comment, opens_directive}
-use Rattle.c_lexemes.proofs.Fronts.{both_true, is_among-front, begins_mark, marks_begin}
+use Rattle.c_tree.specs.Tokens.Characters.{begins, begins_with, is_blank, is_space_or_tab, is_line_feed, is_digit, is_nondigit}
+use Rattle.c_tree.specs.Tokens.TokenKinds.{is_among, marks, is_name, is_number_run, could_be_token}
+use Rattle.c_tree.specs.Tokens.Lexing.{opens_block_comment, opens_line_comment, opens_directive}
+use Rattle.std.proofs.lemmas.Bool.{and_parts}
+use Rattle.c_tree.proofs.FirstBytes.{marks_begin, is_among-front, digit_is_no_slash, begins_mark}
 
 -- ---- texts that begin with given bytes
 
 front_is : (first : ℕ) (front here : List ℕ) → begins_with here (first ∷ front) ≡ true → take 1 here ≡ first ∷ []
 front_is first front [] e = cc
 front_is first front (c ∷ cs) e =
-    let same : first ≡ c = eqb-true first c (both_true (eqb first c) (bytes_eq front (take (length front) cs)) e).0 in
+    let same : first ≡ c = eqb-true first c (and_parts (eqb first c) (bytes_eq front (take (length front) cs)) e).0 in
     ap (λ (x : ℕ). x ∷ []) (sym same)
 
 begins-take_one : (p : ℕ → Bool) (here : List ℕ) → begins p (take 1 here) ≡ begins p here
@@ -36,8 +37,8 @@ not_both_comments (c ∷ []) e = by_test (eqb 47 c) e
     by_test true h = cc
     by_test false h = refl
 not_both_comments (c ∷ d ∷ cs) e =
-    let parts = both_true (eqb 47 c) (eqb 47 d && true) e in
-    let second : 47 ≡ d = eqb-true 47 d (both_true (eqb 47 d) true parts.1).0 in
+    let parts = and_parts (eqb 47 c) (eqb 47 d && true) e in
+    let second : 47 ≡ d = eqb-true 47 d (and_parts (eqb 47 d) true parts.1).0 in
     rw (parts.0, sym second) refl
 
 -- ---- comments and lines of `#`
@@ -53,7 +54,7 @@ line_no_blank here e = front_fails is_blank 47 (47 ∷ []) here e
 -- a `#` stands first
 pub directive_begins : (before here : List ℕ) → opens_directive before here ≡ true → begins_with here (codes "#") ≡ true
 unfolding opens_directive
-directive_begins before here e = (both_true (begins_with here (codes "#")) (list_all is_space_or_tab (after_last is_line_feed before)) e).0
+directive_begins before here e = (and_parts (begins_with here (codes "#")) (list_all is_space_or_tab (after_last is_line_feed before)) e).0
 
 pub record IsHash (here : List ℕ) : Type 0 where
   pub no_blank : begins is_blank here ≡ false
@@ -84,12 +85,12 @@ or_true false b c f g e = g e
 name_begins : (bytes : List ℕ) → is_name bytes ≡ true → begins begins_token bytes ≡ true
 unfolding is_name begins_token
 name_begins [] e = cc
-name_begins (c ∷ cs) e = rw (both_true (is_nondigit c) _ e).0 refl
+name_begins (c ∷ cs) e = rw (and_parts (is_nondigit c) _ e).0 refl
 
 number_begins : (bytes : List ℕ) → is_number_run bytes ≡ true → begins is_digit bytes ≡ true
 unfolding is_number_run
 number_begins [] e = cc
-number_begins (c ∷ cs) e = (both_true (is_digit c) _ e).0
+number_begins (c ∷ cs) e = (and_parts (is_digit c) _ e).0
 
 begins_more : (p q : ℕ → Bool) (bytes : List ℕ) → ((c : ℕ) → p c ≡ true → q c ≡ true) → begins p bytes ≡ true → begins q bytes ≡ true
 begins_more p q [] more e = cc
@@ -143,10 +144,6 @@ unfolding opens_directive
 lexeme_no_directive n before here e =
     let no_hash : begins (eqb 35) here ≡ false = begins_less begins_token (eqb 35) here token_is_no_hash (begins-take begins_token n here (token_begins (take n here) e)) in
     rw (no_front 35 [] here no_hash) refl
-
-digit_is_no_slash : (c : ℕ) → is_digit c ≡ true → eqb 47 c ≡ false
-unfolding is_digit
-digit_is_no_slash c e = grind (arith, nat_tests)
 
 number_no_slash : (n : ℕ) (here : List ℕ) → is_number_run (take n here) ≡ true → begins (eqb 47) here ≡ false
 number_no_slash n here e = begins_less is_digit (eqb 47) here digit_is_no_slash (begins-take is_digit n here (number_begins (take n here) e))

@@ -1,8 +1,8 @@
 -- Where the tokens of a text lie.
 use Rattle.std.proofs.Common.{ℕ, ◌+◌, ◌≤◌, List, [], ◌∷◌, length, take, drop, refl, arith}
 use Rattle.c_tree.specs.declared.token.Token.{Token}
-use Rattle.c_tree.specs.Lexing.{Separates, Reaches, nothing, gap, token}
-use Rattle.c_tree.specs.Places.{AreInOrder, AreSeparated}
+use Rattle.c_tree.specs.Tokens.Lexing.{Separates, Reaches, nothing, gap, token}
+use Rattle.c_tree.specs.Tokens.Places.{AreInOrder, AreSeparated}
 use Rattle.c_token.specs.declared.piece.Piece.TheVariants.{Lexeme}
 use Rattle.c_token.proofs.Sizes.{piece_fits}
 

@@ -2,9 +2,9 @@
 use Rattle.std.proofs.Common.{◌≡◌, ℕ, zero, suc, ◌+◌, ◌<◌, ◌≤◌, Bool, true, false, List, [], ◌∷◌, length, take, drop, Ok, arith, length-take, length-drop, one-add}
 use Rattle.std.specs.List.{position_or_len}
 use Rattle.c_tree.specs.declared.token.Kind.{Kind}
-use Rattle.c_tree.specs.Characters.{begins, begins_with, is_blank, is_line_feed}
-use Rattle.c_tree.specs.Lexemes.{could_be_token}
-use Rattle.c_tree.specs.Lexing.{opens_block_comment, opens_line_comment, opens_directive, IsBlockComment, line_of, IsLineComment, directive_of, Separates, blank, block_comment, line_comment, skipped_line, IsToken, spelled, bound}
+use Rattle.c_tree.specs.Tokens.Characters.{begins, begins_with, is_blank, is_line_feed}
+use Rattle.c_tree.specs.Tokens.TokenKinds.{could_be_token}
+use Rattle.c_tree.specs.Tokens.Lexing.{opens_block_comment, opens_line_comment, opens_directive, IsBlockComment, line_of, IsLineComment, directive_of, Separates, blank, block_comment, line_comment, skipped_line, IsToken, spelled, bound}
 use Rattle.c_token.specs.declared.piece.Piece.{Piece}
 use Rattle.c_token.specs.declared.piece.Piece.TheVariants.{Gap, Lexeme}
 use Rattle.c_token.specs.declared.piece.Flaw.{Flaw}

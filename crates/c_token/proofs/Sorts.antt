@@ -1,14 +1,14 @@
 -- One thing stands at a place.
 use Rattle.std.proofs.Common.{◌≡◌, ℕ, ◌+◌, ◌<◌, ◌≤◌, Bool, true, false, cond, List, [], ◌∷◌, length, take, Some, Result, Ok, Err, codes, refl, sym, ◌∙◌, ap, subst, arith}
 use Rattle.std.proofs.Common.{◌⊎◌, inl, inr}
-use Rattle.std.proofs.lemmas.Bool.{cases_lt}
+use Rattle.std.proofs.lemmas.Bool.{cases_lt, and_parts}
 use Rattle.std.specs.Prelude.{bytes_eq, take_while}
 use Rattle.std.proofs.lemmas.List.Sums.{take_while-cons}
 use Rattle.std.proofs.lemmas.Slice.Eq.{bytes_eq-Decides}
 use Rattle.c_tree.specs.declared.token.Kind.{Kind}
-use Rattle.c_tree.specs.Characters.{begins, is_blank, is_digit, is_name_byte}
-use Rattle.c_tree.specs.Lexemes.{kind_of}
-use Rattle.c_tree.specs.Lexing.{IsLongest, opens_block_comment, opens_line_comment, opens_directive, IsBlockComment, line_of, directive_of, after_spaces, word_of, is_marker, after_word, is_pragma, is_loopbound, is_skipped, is_bound_operand, is_bound_line, operand_of, Separates, blank, block_comment, line_comment, skipped_line, IsLexeme, IsBound, IsToken, spelled, bound}
+use Rattle.c_tree.specs.Tokens.Characters.{begins, is_blank, is_digit, is_name_byte}
+use Rattle.c_tree.specs.Tokens.TokenKinds.{kind_of}
+use Rattle.c_tree.specs.Tokens.Lexing.{IsLongest, opens_block_comment, opens_line_comment, opens_directive, IsBlockComment, line_of, directive_of, after_spaces, word_of, is_marker, after_word, is_pragma, is_loopbound, is_skipped, is_bound_operand, is_bound_line, operand_of, Separates, blank, block_comment, line_comment, skipped_line, IsSpelledToken, IsBoundToken, IsToken, spelled, bound}
 use Rattle.c_token.specs.declared.piece.Piece.{Piece}
 use Rattle.c_token.specs.declared.piece.Piece.TheVariants.{Gap, Lexeme}
 use Rattle.c_token.specs.declared.piece.Flaw.{Flaw}
@@ -16,7 +16,6 @@ use Rattle.c_token.specs.declared.piece.Flaw.TheVariants.{Byte, Comment, Number,
 use Rattle.c_lexemes.specs.Unread.{IsOpenComment, IsBadNumber}
 use Rattle.c_token.specs.Faults.{IsStrayByte, IsBadDirective}
 use Rattle.c_token.specs.Pieces.{IsFlaw, Stands}
-use Rattle.c_lexemes.proofs.Fronts.{both_true}
 use Rattle.c_token.proofs.Beginnings.{block_no_blank, line_no_blank, not_both_comments, directive_is_hash, lexeme_no_blank, lexeme_no_directive, number_no_block_comment, number_no_line_comment, block_is_token, line_is_token}
 
 data Sort : Type 0 where
@@ -37,9 +36,9 @@ data AtSort (before here : List ℕ) : Sort → Result Piece Flaw → Type 0 whe
   unclosed : IsOpenComment here → AtSort before here at_block_comment (Err Comment)
   to_end : {n : ℕ} → n ≡ length (line_of here) → AtSort before here at_line_comment (Ok (Gap n))
   skipped : {n : ℕ} → is_skipped (directive_of here) ≡ true → n ≡ 1 + length (directive_of here) → AtSort before here at_directive (Ok (Gap n))
-  a_bound : {kind : Kind} {n : ℕ} → IsBound before here kind n → AtSort before here at_directive (Ok (Lexeme kind n))
+  a_bound : {kind : Kind} {n : ℕ} → IsBoundToken before here kind n → AtSort before here at_directive (Ok (Lexeme kind n))
   bad_line : IsBadDirective before here → AtSort before here at_directive (Err Directive)
-  a_lexeme : {kind : Kind} {n : ℕ} → IsLexeme here kind n → AtSort before here at_other (Ok (Lexeme kind n))
+  a_lexeme : {kind : Kind} {n : ℕ} → IsSpelledToken here kind n → AtSort before here at_other (Ok (Lexeme kind n))
   bad_number : IsBadNumber here → AtSort before here at_other (Err Number)
   stray : IsStrayByte before here → AtSort before here at_other (Err Byte)
 
@@ -84,7 +83,7 @@ stray_no_line before here h = by_test (opens_line_comment here) refl
     by_test true e = let none = h.no_token 1 h.some in let is = line_is_token here e in cc
     by_test false e = refl
 
-lexeme_sort : (before here : List ℕ) (kind : Kind) (n : ℕ) → IsLexeme here kind n → sort_of before here ≡ at_other
+lexeme_sort : (before here : List ℕ) (kind : Kind) (n : ℕ) → IsSpelledToken here kind n → sort_of before here ≡ at_other
 lexeme_sort before here kind n l = sort-other before here (lexeme_no_blank n here l.longest.could_be) l.no_block_comment l.no_line_comment (lexeme_no_directive n before here l.longest.could_be)
 
 number_sort : (before here : List ℕ) → IsBadNumber here → sort_of before here ≡ at_other
@@ -133,12 +132,12 @@ same_length here m n a b = by_order (cases_lt m n) (cases_lt n m)
 same_kind : (bytes : List ℕ) (j k : Kind) → kind_of bytes ≡ Some j → kind_of bytes ≡ Some k → j ≡ k
 same_kind bytes j k a b = cc
 
-same_lexeme : (here : List ℕ) (j k : Kind) (m n : ℕ) → IsLexeme here j m → IsLexeme here k n → (j ≡ k) × (m ≡ n)
+same_lexeme : (here : List ℕ) (j k : Kind) (m n : ℕ) → IsSpelledToken here j m → IsSpelledToken here k n → (j ≡ k) × (m ≡ n)
 same_lexeme here j k m n a b =
     let long = same_length here m n a.longest b.longest in
     (same_kind (take n here) j k (subst (λ (l : ℕ). kind_of (take l here) ≡ Some j) long a.kind_is) b.kind_is, long)
 
-lexeme_is_no_bad_number : (here : List ℕ) (kind : Kind) (n : ℕ) → IsLexeme here kind n → IsBadNumber here → ⊥
+lexeme_is_no_bad_number : (here : List ℕ) (kind : Kind) (n : ℕ) → IsSpelledToken here kind n → IsBadNumber here → ⊥
 lexeme_is_no_bad_number here kind n a b =
     let long = same_length here n b.n a.longest b.longest in
     let is = subst (λ (l : ℕ). kind_of (take l here) ≡ Some kind) long a.kind_is in
@@ -148,7 +147,7 @@ lexeme_is_no_bad_number here kind n a b =
 longest_is_no_stray : (before here : List ℕ) (n : ℕ) → IsLongest here n → IsStrayByte before here → ⊥
 longest_is_no_stray before here n a b = let h = b.no_token n a.within in let k = a.could_be in cc
 
-same_bound : (before here : List ℕ) (j k : Kind) (m n : ℕ) → IsBound before here j m → IsBound before here k n → (j ≡ k) × (m ≡ n)
+same_bound : (before here : List ℕ) (j k : Kind) (m n : ℕ) → IsBoundToken before here j m → IsBoundToken before here k n → (j ≡ k) × (m ≡ n)
 same_bound before here j k m n a b = (a.kind_is ∙ sym b.kind_is, let p = a.size in let q = b.size in omega arith)
 
 -- the word `pragma` begins with no digit
@@ -169,9 +168,9 @@ pragma_no_marker line e = pragma_is_no_marker (after_spaces line) ((bytes_eq-Dec
 bound_not_skipped : (line : List ℕ) → is_bound_line line ≡ true → is_skipped line ≡ true → ⊥
 unfolding is_bound_line is_skipped is_loopbound
 bound_not_skipped line is skips =
-    let loopbound = (both_true (is_loopbound line) (is_bound_operand (operand_of line)) is).0 in
-    let pragma = (both_true (is_pragma line) (bytes_eq (word_of (after_word line)) (codes "loopbound")) loopbound).0 in
-    let h = rw (pragma_no_marker line pragma, pragma, (both_true (is_pragma line) (bytes_eq (word_of (after_word line)) (codes "loopbound")) loopbound).1) at skips in
+    let loopbound = (and_parts (is_loopbound line) (is_bound_operand (operand_of line)) is).0 in
+    let pragma = (and_parts (is_pragma line) (bytes_eq (word_of (after_word line)) (codes "loopbound")) loopbound).0 in
+    let h = rw (pragma_no_marker line pragma, pragma, (and_parts (is_pragma line) (bytes_eq (word_of (after_word line)) (codes "loopbound")) loopbound).1) at skips in
     cc
 
 gap_same : {m n : ℕ} → m ≡ n → ◌≡◌ {A = Result Piece Flaw} (Ok (Gap m)) (Ok (Gap n))

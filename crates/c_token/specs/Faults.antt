@@ -1,8 +1,8 @@
 -- What keeps a text from being tokens.
 use Rattle.std.specs.Prelude.{◌≡◌, ℕ, ◌<◌, true, false, List, length, take, drop}
 use Rattle.c_tree.specs.declared.token.Token.{Token}
-use Rattle.c_tree.specs.Characters.{begins, is_blank}
-use Rattle.c_tree.specs.Lexing.{opens_directive, directive_of, is_skipped, is_bound_line, Reaches}
+use Rattle.c_tree.specs.Tokens.Characters.{begins, is_blank}
+use Rattle.c_tree.specs.Tokens.Lexing.{opens_directive, directive_of, is_skipped, is_bound_line, Reaches}
 use Rattle.c_lexemes.specs.Unread.{HasNoToken, IsOpenComment, IsBadNumber}
 
 -- nothing begins here: no token, no blank, no comment (it would begin with the mark `/`), no line of `#`

@@ -1,8 +1,8 @@
 -- What stands at a place of a text.
 use Rattle.std.specs.Prelude.{◌≡◌, ℕ, false, List, take, drop, Option, Some, None, Result, MatchResult}
 use Rattle.c_tree.specs.declared.token.Token.{Token}
-use Rattle.c_tree.specs.Characters.{begins, is_blank}
-use Rattle.c_tree.specs.Lexing.{Separates, IsToken, opens_block_comment, opens_line_comment, opens_directive}
+use Rattle.c_tree.specs.Tokens.Characters.{begins, is_blank}
+use Rattle.c_tree.specs.Tokens.Lexing.{Separates, IsToken, opens_block_comment, opens_line_comment, opens_directive}
 use Rattle.c_token.specs.declared.piece.Piece.{Piece}
 use Rattle.c_token.specs.declared.piece.Piece.TheVariants.{Gap, Lexeme}
 use Rattle.c_token.specs.declared.piece.Flaw.{Flaw}
@@ -46,14 +46,14 @@ token_of (Gap n) from to = None
 token_of (Lexeme kind n) from to = Some (record { kind = kind; from = from; to = to })
 
 -- the fault that a flaw is at a place
-abbrev pub fault_of : Flaw → ℕ → TokenFault
-fault_of Byte at = faults.Byte at
-fault_of Comment at = faults.Comment at
-fault_of Number at = faults.Number at
-fault_of Directive at = faults.Directive at
+abbrev pub token_fault : Flaw → ℕ → TokenFault
+token_fault Byte at = faults.Byte at
+token_fault Comment at = faults.Comment at
+token_fault Number at = faults.Number at
+token_fault Directive at = faults.Directive at
 
 -- the fault is that of a flaw at this place of the text
 pub record StopsHere (text : List ℕ) (at : ℕ) (fault : TokenFault) : Type 0 where
   pub flaw : Flaw
-  pub is : fault ≡ fault_of flaw at
+  pub is : fault ≡ token_fault flaw at
   pub stands : IsFlaw (take at text) (drop at text) flaw

@@ -2,8 +2,8 @@
 
 ghost use Rattle.std.specs.Prelude.{◌≡◌, ℕ, List, length};
 ghost use Rattle.c_tree.specs.declared.token.Token.{Token};
-ghost use Rattle.c_tree.specs.Lexing.{Lexes};
-ghost use Rattle.c_tree.specs.Places.{AreInOrder, AreSeparated};
+ghost use Rattle.c_tree.specs.Tokens.Lexing.{Lexes};
+ghost use Rattle.c_tree.specs.Tokens.Places.{AreInOrder, AreSeparated};
 
 /// A text has at most one list of tokens.
 #[tactic(auto, using(crate::proofs::Answering::lexed_once))]

@@ -1,7 +1,7 @@
 //! What stands at a place of a text.
 
 ghost use Rattle.std.specs.Prelude.{◌≡◌, ◌<◌, ℕ, List, true, length};
-ghost use Rattle.c_tree.specs.Lexing as lexing;
+ghost use Rattle.c_tree.specs.Tokens.Lexing as lexing;
 ghost use Rattle.c_token.specs.Pieces.{Stands, IsOther, size_of};
 
 use c_lexemes::{

@@ -1,9 +1,25 @@
 //! The scanner over a text.
 
-ghost use Rattle.std.specs.Prelude.{◌≡◌, ◌<◌, ◌≤◌, ◌^◌, ◌↔◌, ◌++◌, ℕ, List, length, nat_le, IsOkAnd, IfOk, OnOk, IfErr, MatchResult};
+ghost use Rattle.std.specs.Prelude.{
+  ◌≡◌,
+  ◌<◌,
+  ◌≤◌,
+  ◌^◌,
+  ◌↔◌,
+  ◌++◌,
+  ℕ,
+  List,
+  length,
+  nat_le,
+  IsOkAnd,
+  IfOk,
+  OnOk,
+  IfErr,
+  MatchResult,
+};
 ghost use Rattle.std.specs.Option.{option_to_list};
-ghost use Rattle.c_tree.specs.Lexing.{Reaches, Lexes};
-ghost use Rattle.c_tree.specs.Places.{AreInOrder, AreSeparated};
+ghost use Rattle.c_tree.specs.Tokens.Lexing.{Reaches, Lexes};
+ghost use Rattle.c_tree.specs.Tokens.Places.{AreInOrder, AreSeparated};
 ghost use Rattle.c_token.specs.Pieces as pieces;
 ghost use Rattle.c_token.specs.Faults.{HasStrayByte, HasOpenComment, HasBadNumber, HasBadDirective};
 ghost use Rattle.c_token.specs.Answers.{UnlessNoMemory, IsFault};
@@ -35,7 +51,8 @@ impl Scanner<'_> {
         ensures text { self.new.text.now ≡ self.old.text.now }
         ensures on { OnOk result (self.old.at < self.new.at) }
         ensures within { OnOk result (self.new.at ≤ length self.old.text.now) }
-        ensures reaches { IfOk result (λ token. Reaches self.old.text.now self.new.at self.old.at (option_to_list token)) }
+        ensures reaches { IfOk result (λ token. Reaches self.old.text.now self.new.at self.old.at
+            (option_to_list token)) }
         ensures stops { IfErr result (pieces.StopsHere self.old.text.now self.old.at) }
     {
         let at = self.at;
@@ -58,7 +75,7 @@ fn token_of(piece: Piece, from: u32, to: u32) -> Option<Token>
 }
 
 fn flaw_at(flaw: Flaw, at: u32) -> TokenFault
-    ensures { result ≡ pieces.fault_of flaw at }
+    ensures { result ≡ pieces.token_fault flaw at }
 {
     match flaw {
         Flaw::Byte => TokenFault::Byte { at },
@@ -103,7 +120,8 @@ pub fn tokens(alloc: Global, text: &[u8]) -> Result<Vec<Token>, TokenFault>
     // What is given are the tokens of the text.
     ensures lexed { IfOk result (λ v. Lexes text.now v.items) }
     // A text that is tokens gives them, unless memory runs out.
-    ensures complete { (ts : List Token) → Lexes text.now ts → UnlessNoMemory result (IsOkAnd result (λ v. v.items ≡ ts)) }
+    ensures complete { (ts : List Token) → Lexes text.now ts
+        → UnlessNoMemory result (IsOkAnd result (λ v. v.items ≡ ts)) }
 
     // The tokens lie in order in the text, and only separators lie between them.
     ensures in_order { IfOk result (λ v. AreInOrder 0 v.items (length text.now)) }
@@ -111,9 +129,12 @@ pub fn tokens(alloc: Global, text: &[u8]) -> Result<Vec<Token>, TokenFault>
 
     // Each fault comes exactly at the first place that cannot be read, where what it says is true.
     ensures byte { (at : ℕ) → UnlessNoMemory result ((result ≡ Err (TokenFault.Byte at)) ↔ HasStrayByte text.now at) }
-    ensures comment { (at : ℕ) → UnlessNoMemory result ((result ≡ Err (TokenFault.Comment at)) ↔ HasOpenComment text.now at) }
-    ensures number { (at : ℕ) → UnlessNoMemory result ((result ≡ Err (TokenFault.Number at)) ↔ HasBadNumber text.now at) }
-    ensures directive { (at : ℕ) → UnlessNoMemory result ((result ≡ Err (TokenFault.Directive at)) ↔ HasBadDirective text.now at) }
+    ensures comment { (at : ℕ) → UnlessNoMemory result ((result ≡ Err (TokenFault.Comment at))
+        ↔ HasOpenComment text.now at) }
+    ensures number { (at : ℕ) → UnlessNoMemory result ((result ≡ Err (TokenFault.Number at))
+        ↔ HasBadNumber text.now at) }
+    ensures directive { (at : ℕ) → UnlessNoMemory result ((result ≡ Err (TokenFault.Directive at))
+        ↔ HasBadDirective text.now at) }
 {
     scan(alloc, text)
 }

@@ -2,9 +2,11 @@
 use Rattle.std.proofs.Common.{◌≡◌, ◌<◌, ℕ, zero, suc, ◌+◌, ◌*◌, ◌/◌, ◌%◌, Bool, true, false, if◌then◌else◌, Option, Some, None, ℤ, pos, subst, arith}
 use Rattle.std.specs.Prelude.{int_div, int_rem, ◌+ℤ◌, ◌*ℤ◌}
 use Rattle.std.proofs.lemmas.Int.{quot-rem}
+use Rattle.c_tree.specs.declared.tree.Ty.TheVariants as ty
 use Rattle.c_tree.specs.declared.value.Value.{Value}
 use Rattle.c_tree.specs.declared.value.Value.TheVariants.{Int, Unsigned}
-use Rattle.c_tree.specs.Operators.{is_int, int_same, int_quotient, int_remainder, only_after, quotient, remainder}
+use Rattle.c_tree.specs.Meaning.Values.{is_of}
+use Rattle.c_tree.specs.Meaning.Operators.{int_same, int_quotient, int_remainder, only_after, quotient, remainder}
 
 -- ---- division
 
@@ -14,7 +16,7 @@ quotient_is false true d q e = cc
 quotient_is false false d q e = absurd (cc)
 
 pub int_quotient_is : (x y q : ℤ) → int_quotient x y ≡ Some (Int q) → int_div x y ≡ q
-int_quotient_is x y q e = quotient_is (int_same y (pos 0)) (is_int (int_div x y)) (int_div x y) q e
+int_quotient_is x y q e = quotient_is (int_same y (pos 0)) (is_of ty.Int (int_div x y)) (int_div x y) q e
 
 remainder_is : (o : Option Value) (d r : ℤ) → only_after o (Int d) ≡ Some (Int r) → d ≡ r
 remainder_is None d r e = absurd (cc)

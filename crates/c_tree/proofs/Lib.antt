@@ -1,21 +1,9 @@
-pub mod ValLayers
-pub mod ExecLayers
-pub mod Callees
-pub mod WorkedRuns
-pub mod WorkedExpressions
-pub mod WorkedStatements
-pub mod Ranges
-pub mod Slots
-pub mod Evaluated
-pub mod SimpleKept
-pub mod ExecKept
-pub mod Called
-pub mod StmtsFind
-pub mod Begun
+pub mod Layers
+pub mod Worked
+pub mod Keeping
 pub mod SpanLaws
-pub mod SpanLayers
 pub mod Arithmetic
 pub mod Traces
-pub mod WorkedWellFormed
-pub mod FormedLayers
-mod WorkedChecks
+pub mod FirstBytes
+pub mod FunctionSpans
+pub mod Outcomes

@@ -4,10 +4,10 @@ use Rattle.std.specs.Prelude.{sum}
 use Rattle.std.proofs.lemmas.List.Sums.{sum_by-append}
 use Rattle.c_tree.specs.declared.tree.Stmt.{Stmt, Row_of-Stmt, end_of-Stmt, more_of-Stmt, Held-Stmt-For-1, None', Some'}
 use Rattle.c_tree.specs.declared.tree.Stmt.TheVariants.{Empty, Scalar, Array, Assign, Call, Break, Continue, Return, If', While', Do', For', Group'}
-use Rattle.c_tree.specs.Blocks.{is_simple, begun, blocks, row_blocks, held_blocks}
-use Rattle.c_tree.specs.Spans.{begun_scale, scales, row_scales, held_scales, begun_span, span, row_span, held_span}
+use Rattle.c_tree.specs.Meaning.Blocks.{is_simple, begun_blocks, blocks, row_blocks, held_blocks}
+use Rattle.c_tree.specs.Meaning.Spans.{begun_scale, scales, row_scales, held_scales, begun_span, span, row_span, held_span}
 
-begun_length : (k : ℕ) (run : Bool) → length (begun_scale k run) ≡ begun run
+begun_length : (k : ℕ) (run : Bool) → length (begun_scale k run) ≡ begun_blocks run
 begun_length k true = refl
 begun_length k false = refl
 

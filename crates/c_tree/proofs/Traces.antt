@@ -15,11 +15,11 @@ use Rattle.c_tree.specs.declared.value.Value.{Value}
 use Rattle.c_tree.specs.declared.value.Slot.{Slot}
 use Rattle.c_tree.specs.declared.value.Store.{Store}
 use Rattle.c_tree.specs.declared.value.Way.TheVariants as way
-use Rattle.c_tree.specs.Values.{is_true}
-use Rattle.c_tree.specs.Expressions.{val, all_values}
-use Rattle.c_tree.specs.Blocks.{is_simple, begun, blocks, row_blocks, held_blocks, list_blocks, block_count, IsBlockOf, AreBlocksOf}
-use Rattle.c_tree.specs.Statements.{Callee, Back, Gives, Lost, Outcome, Ends, Undefined, OverBound, with_value, stored, after, then_do, turn_do, entered, simple, while_turns, do_turns, unset_target, give, come_back, call, return_value, exec, row_exec, held_exec, list_exec}
-use Rattle.c_tree.specs.Runs.{entry_slots, back, callee, callees, Run, Ended, IsUndefined, IsOverBound, run_of, started, run}
+use Rattle.c_tree.specs.Meaning.Values.{is_nonzero}
+use Rattle.c_tree.specs.Meaning.Expressions.{val, all_values}
+use Rattle.c_tree.specs.Meaning.Blocks.{is_simple, begun_blocks, blocks, row_blocks, held_blocks, list_blocks, block_count, IsBlockOf, AreBlocksOf}
+use Rattle.c_tree.specs.Meaning.Statements.{Callee, Back, Gives, CallUndefined, CallOverBound, Outcome, Ends, Undefined, OverBound, with_value, store_outcome, after, then_do, turn_do, entered_block, simple, while_turns, do_turns, unset_target, give, come_back, call, return_value, exec, row_exec, held_exec, list_exec}
+use Rattle.c_tree.specs.Meaning.Runs.{entry_slots, back, callee, callees, Run, Ended, IsUndefined, IsOverBound, run_of, entry_run, run}
 
 -- ---- combinators, of functions fs
 
@@ -38,7 +38,7 @@ module _ (fs : List Func) where
   after_traced t Undefined ht ho = tt
   after_traced t OverBound ht ho = tt
 
-  stored_traced : (o : Option Store) → Traced (stored o)
+  stored_traced : (o : Option Store) → Traced (store_outcome o)
   stored_traced None = tt
   stored_traced (Some s) = tt
 
@@ -70,25 +70,26 @@ module _ (fs : List Func) where
 
   while_traced : (n : ℕ) (c : BlockName) (e : Expr) (body step : Store → Outcome) → IsBlockOf fs c → ((s : Store) → Traced (body s)) → ((s : Store) → Traced (step s)) → (s : Store) → Traced (while_turns n c e body step s)
   while_traced zero c e body step hc hb hs s =
-      let go = λ (v : Value). if is_true v then OverBound else Ends [] s way.Next in
-      after_traced (c ∷ []) (with_value (val e s) go) (hc, tt) (value_traced (val e s) go (λ v. choice_traced (is_true v) OverBound (Ends [] s way.Next) tt tt))
+      let go = λ (v : Value). if is_nonzero v then OverBound else Ends [] s way.Next in
+      after_traced (c ∷ []) (with_value (val e s) go) (hc, tt) (value_traced (val e s) go (λ v. choice_traced (is_nonzero v) OverBound (Ends [] s way.Next) tt tt))
   while_traced (suc n) c e body step hc hb hs s =
       let again = λ (s' : Store). then_do (step s') (while_turns n c e body step) in
-      let go = λ (v : Value). if is_true v then turn_do (body s) again else Ends [] s way.Next in
-      after_traced (c ∷ []) (with_value (val e s) go) (hc, tt) (value_traced (val e s) go (λ v. choice_traced (is_true v) (turn_do (body s) again) (Ends [] s way.Next) (turn_traced (body s) again (hb s) (λ s'. then_traced (step s') (while_turns n c e body step) (hs s') (while_traced n c e body step hc hb hs))) tt))
+      let go = λ (v : Value). if is_nonzero v then turn_do (body s) again else Ends [] s way.Next in
+      after_traced (c ∷ []) (with_value (val e s) go) (hc, tt) (value_traced (val e s) go (λ v. choice_traced (is_nonzero v) (turn_do (body s) again) (Ends [] s way.Next) (turn_traced (body s) again (hb s) (λ s'. then_traced (step s') (while_turns n c e body step) (hs s') (while_traced n c e body step hc hb hs))) tt))
 
   do_traced : (n : ℕ) (c : BlockName) (e : Expr) (body : Store → Outcome) → IsBlockOf fs c → ((s : Store) → Traced (body s)) → (s : Store) → Traced (do_turns n c e body s)
   do_traced zero c e body hc hb s = tt
   do_traced (suc n) c e body hc hb s =
-      let test = λ (s' : Store) (v : Value). if is_true v then do_turns n c e body s' else Ends [] s' way.Next in
+      let test = λ (s' : Store) (v : Value). if is_nonzero v then do_turns n c e body s' else Ends [] s' way.Next in
       let again = λ (s' : Store). after (c ∷ []) (with_value (val e s') (test s')) in
-      turn_traced (body s) again (hb s) (λ s'. after_traced (c ∷ []) (with_value (val e s') (test s')) (hc, tt) (value_traced (val e s') (test s') (λ v. choice_traced (is_true v) (do_turns n c e body s') (Ends [] s' way.Next) (do_traced n c e body hc hb s') tt)))
+      turn_traced (body s) again (hb s) (λ s'. after_traced (c ∷ []) (with_value (val e s') (test s')) (hc, tt) (value_traced (val e s') (test s') (λ v. choice_traced (is_nonzero v) (do_turns n c e body s') (Ends [] s' way.Next) (do_traced n c e body hc hb s') tt)))
 
   -- ---- calls
 
   abbrev BackTraced : Back → Type 0
   BackTraced (Gives t gs v) = AreBlocksOf fs t
-  BackTraced (Lost o) = Traced o
+  BackTraced CallUndefined = Traced Undefined
+  BackTraced CallOverBound = Traced OverBound
 
   give_traced : (t : Target) (v : Option Value) (s : Store) → Traced (give t v s)
   give_traced Nothing v s = tt
@@ -100,7 +101,8 @@ module _ (fs : List Func) where
   back_traced : (t : Target) (s : Store) (b : Back) → BackTraced b → Traced (come_back t s b)
   back_traced t s (Gives u gs v) h =
       after_traced u (give t v (record { locals = s.locals; globals = gs })) h (give_traced t v (record { locals = s.locals; globals = gs }))
-  back_traced t s (Lost o) h = h
+  back_traced t s CallUndefined h = h
+  back_traced t s CallOverBound h = h
 
   abbrev CalleeTraced : Callee → Type 0
   CalleeTraced c = (vs : List Value) (gs : List Slot) → BackTraced (c vs gs)
@@ -123,12 +125,12 @@ module _ (fs : List Func) where
 -- ---- statements of the function f, which has m blocks
 
 module _ (fs : List Func) (cs : List Callee) (all : AllTraced fs cs) (f m : ℕ) (mine : (k : ℕ) → k < m → IsBlockOf fs (record { func = f; number = k })) where
-  entered_blocks : (n : ℕ) (run : Bool) → n + begun run ≤ m → AreBlocksOf fs (entered f n run)
+  entered_blocks : (n : ℕ) (run : Bool) → n + begun_blocks run ≤ m → AreBlocksOf fs (entered_block f n run)
   entered_blocks n true h = tt
   entered_blocks n false h = (mine n (omega (arith, h)), tt)
 
-  simple_traced : (n : ℕ) (run : Bool) (o : Option Store) → n + begun run ≤ m → Traced fs (after (entered f n run) (stored o))
-  simple_traced n run o h = after_traced fs (entered f n run) (stored o) (entered_blocks n run h) (stored_traced fs o)
+  simple_traced : (n : ℕ) (run : Bool) (o : Option Store) → n + begun_blocks run ≤ m → Traced fs (after (entered_block f n run) (store_outcome o))
+  simple_traced n run o h = after_traced fs (entered_block f n run) (store_outcome o) (entered_blocks n run h) (stored_traced fs o)
 
   one_block : (n : ℕ) → n + 1 ≤ m → AreBlocksOf fs (record { func = f; number = n } ∷ [])
   one_block n h = (mine n (omega (arith, h)), tt)
@@ -149,8 +151,8 @@ module _ (fs : List Func) (cs : List Callee) (all : AllTraced fs cs) (f m : ℕ)
     stmt_traced (Return e) n run s h =
         after_traced fs (record { func = f; number = n } ∷ []) (return_value e s) (one_block n h) (return_traced fs e s)
     stmt_traced (If' e a x b y) n run s h =
-        let go = λ (v : Value). if is_true v then row_exec cs f x (n + 1) false s else row_exec cs f y (n + 1 + row_blocks x false) false s in
-        after_traced fs (record { func = f; number = n } ∷ []) (with_value (val e s) go) (one_block n (omega (arith, h))) (value_traced fs (val e s) go (λ v. choice_traced fs (is_true v) (row_exec cs f x (n + 1) false s) (row_exec cs f y (n + 1 + row_blocks x false) false s) (row_traced x (n + 1) false s (omega (arith, h))) (row_traced y (n + 1 + row_blocks x false) false s (omega (arith, h)))))
+        let go = λ (v : Value). if is_nonzero v then row_exec cs f x (n + 1) false s else row_exec cs f y (n + 1 + row_blocks x false) false s in
+        after_traced fs (record { func = f; number = n } ∷ []) (with_value (val e s) go) (one_block n (omega (arith, h))) (value_traced fs (val e s) go (λ v. choice_traced fs (is_nonzero v) (row_exec cs f x (n + 1) false s) (row_exec cs f y (n + 1 + row_blocks x false) false s) (row_traced x (n + 1) false s (omega (arith, h))) (row_traced y (n + 1 + row_blocks x false) false s (omega (arith, h)))))
     stmt_traced (While' k e a x) n run s h =
         while_traced fs k (record { func = f; number = n }) e (row_exec cs f x (n + 1) false) (λ s'. Ends [] s' way.Next) (mine n (omega (arith, h))) (λ s'. row_traced x (n + 1) false s' (omega (arith, h))) (λ s'. tt) s
     stmt_traced (Do' k a x e) n run s h =
@@ -217,11 +219,10 @@ RunTraced fs IsOverBound = Unit {0}
 
 back_run : (fs : List Func) (b : Back) → BackTraced fs b → RunTraced fs (run_of b)
 back_run fs (Gives t gs v) h = h
-back_run fs (Lost (Ends t s w)) h = h
-back_run fs (Lost Undefined) h = tt
-back_run fs (Lost OverBound) h = tt
+back_run fs CallUndefined h = tt
+back_run fs CallOverBound h = tt
 
-started_traced : (fs : List Func) (cs : List Callee) → AllTraced fs cs → (g : ℕ) (vs : List Value) (gs : List Slot) → RunTraced fs (started (slice_get cs g) vs gs)
+started_traced : (fs : List Func) (cs : List Callee) → AllTraced fs cs → (g : ℕ) (vs : List Value) (gs : List Slot) → RunTraced fs (entry_run (slice_get cs g) vs gs)
 started_traced fs [] h g vs gs = tt
 started_traced fs (c ∷ cs) h zero vs gs = back_run fs (c vs gs) (h.0 vs gs)
 started_traced fs (c ∷ cs) h (suc g) vs gs = started_traced fs cs h.1 g vs gs

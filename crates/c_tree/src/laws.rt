@@ -7,6 +7,7 @@ pub mod operators;
 pub mod runs;
 pub mod spans;
 pub mod statements;
+pub mod symbols;
 pub mod traces;
 pub mod values;
 pub mod well_formed;

@@ -13,9 +13,9 @@ pub struct Local {
     pub length: Option<u32>,
 }
 
-/// A variable of file scope. An array has a length, from 1 to 64 in a checked program. `outer` tells `extern`, whose numbers
-/// are inputs; `values` are those of the initialiser, in order and converted to the type. There are none without one, and a
-/// short list stays short.
+/// A variable of file scope. An array has a length, from 1 to 64 in a checked program. `outer` tells `extern`, whose
+/// numbers are inputs; `values` are those of the initialiser, in order and converted to the type. There are none
+/// without one, and a short list stays short.
 #[derive(Drop)]
 pub struct Global {
     pub name: Name,
@@ -35,8 +35,8 @@ pub struct Func {
     pub body: Items<Stmt>,
 }
 
-/// A program: its globals and functions in the order of the text, and the number of its entry function. It is typed from a
-/// unit that the tokens of some text spell, which whoever makes one has to prove; checking does, and copying.
+/// A program: its globals and functions in the order of the text, and the number of its entry function. It is typed
+/// from a unit that the tokens of some text spell, which whoever makes one has to prove; checking does, and copying.
 #[derive(Drop)]
 pub struct Program {
     pub globals: Items<Global>,
@@ -47,13 +47,13 @@ pub struct Program {
 impl Model for Program {
     ghost use Rattle.std.specs.Coded.{codes};
     ghost use Rattle.c_tree.specs.contracts.tree.Stmt as stmt;
-    ghost use Rattle.c_tree.specs.Programs.{Program};
+    ghost use Rattle.c_tree.specs.Keeping.Programs.{Program};
 
     ghost Value = { Program };
 
     ghost coded = { Prim.hlevel (codes, stmt.the_row.coded) };
 
-    ghost use Rattle.c_tree.specs.Checked.{IsProgram, parts};
+    ghost use Rattle.c_tree.specs.Checking.Checked.{IsProgram, parts};
 
     ghost view = { parts };
 
@@ -67,15 +67,15 @@ pub struct BlockName {
     pub number: u32,
 }
 
-/// The costs of blocks: a list for each function in order. Costs of a program have a list for each of its functions, with a
-/// number for each block.
+/// The costs of blocks: a list for each function in order. Costs of a program have a list for each of its functions,
+/// with a number for each block.
 #[derive(Drop)]
 pub struct Costs {
     pub by_func: Items<Items<u32>>,
 }
 
-/// The input numbers of a run: those of the entry function's parameters in order, then those of the extern variables, an
-/// array element by element. An input fits a program that asks for as many, each in the range of its type.
+/// The input numbers of a run: those of the entry function's parameters in order, then those of the extern variables,
+/// an array element by element. An input fits a program that asks for as many, each in the range of its type.
 #[derive(Drop)]
 pub struct Input {
     pub values: Items<i64>,

@@ -18,8 +18,8 @@ pub enum UnOp {
     Not,
 }
 
-/// A binary operator (C11 6.5.5 to 6.5.14): `*`, `/`, `%`, `+`, `-`, `<<`, `>>`, `<`, `>`, `<=`, `>=`, `==`, `!=`, `&`, `^`,
-/// `|`, and `&&` (`Both`) and `||` (`Either`).
+/// A binary operator (C11 6.5.5 to 6.5.14): `*`, `/`, `%`, `+`, `-`, `<<`, `>>`, `<`, `>`, `<=`, `>=`, `==`, `!=`,
+/// `&`, `^`, `|`, and `&&` (`Both`) and `||` (`Either`).
 #[derive(Clone, Copy, Debug, PartialEq, Eq)]
 pub enum BinOp {
     Mul,
@@ -88,8 +88,8 @@ pub enum Target {
     Declare(u32),
 }
 
-/// A statement (C11 6.8), or a declaration in a list (6.7). The number of a loop is its bound, how often its body may be
-/// entered within one entry of the loop: from 1 to 1,048,576 in a checked program.
+/// A statement (C11 6.8), or a declaration in a list (6.7). The number of a loop is its bound, how often its body may
+/// be entered within one entry of the loop: from 1 to 1,048,576 in a checked program.
 #[derive(Drop)]
 pub enum Stmt {
     /// `;`.

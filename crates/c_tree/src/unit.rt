@@ -75,16 +75,17 @@ pub enum RawShape {
     Array(Option<RawExpr>, Option<Items<RawExpr>>),
 }
 
-/// A statement (C11 6.8), or a declarator of a declaration in a list (6.7). The number of `Break`, `Continue` and `Return`
-/// is the place of the word, and of a loop that of its `while`, `do` or `for`, not of its bound. The bool of `Declare` tells
-/// `const`. A body that is one statement is a list of it, and one in braces is their list.
+/// A statement (C11 6.8), or a declarator of a declaration in a list (6.7). The number of `Break`, `Continue` and
+/// `Return` is the place of the word, and of a loop that of its `while`, `do` or `for`, not of its bound. The bool of
+/// `Declare` tells `const`. A body that is one statement is a list of it, and one in braces is their list.
 #[derive(Drop)]
 pub enum RawStmt {
     /// `;`.
     Empty,
     /// The declaration of a name.
     Declare(bool, Ty, Spot, RawShape),
-    /// `p = e;`, or `p op= e;` with an operator. `p++;` and `++p;` are `p += 1;`, whose 1 has the place of the `++`; so with `--`.
+    /// `p = e;`, or `p op= e;` with an operator. `p++;` and `++p;` are `p += 1;`, whose 1 has the place of the `++`;
+    /// so with `--`.
     Assign(RawPlace, Option<BinOp>, RawExpr),
     /// A call: where its result goes, the name that is called, and the arguments.
     Call(RawTarget, Spot, Items<RawExpr>),
@@ -100,8 +101,8 @@ pub enum RawStmt {
     While(u32, Option<RawBound>, RawExpr, Items<RawStmt>),
     /// `do .. while (e);`, after its bound.
     Do(u32, Option<RawBound>, Items<RawStmt>, RawExpr),
-    /// `for (i; e; s) ..`, after its bound: the initialiser, the condition, the step and the body. Where there is no condition
-    /// it is 1, at the place of the `;` after it.
+    /// `for (i; e; s) ..`, after its bound: the initialiser, the condition, the step and the body. Where there is no
+    /// condition it is 1, at the place of the `;` after it.
     For(
         u32,
         Option<RawBound>,
@@ -124,8 +125,8 @@ pub struct RawFunc {
     pub body: Items<RawStmt>,
 }
 
-/// A declarator or a function at file scope (C11 6.9). The bool of `Outer` and the second of `Global` tell `const`, the first
-/// of `Global` tells `static`.
+/// A declarator or a function at file scope (C11 6.9). The bool of `Outer` and the second of `Global` tell `const`,
+/// the first of `Global` tells `static`.
 #[derive(Drop)]
 pub enum RawTop {
     /// `extern` and a name, with its length where it is an array.

@@ -2,7 +2,7 @@
 use Rattle.std.proofs.Common.{◌≡◌, Bool, true, false, refl}
 use Rattle.c_tree.specs.declared.tree.Stmt.{Stmt}
 use Rattle.c_tree.specs.declared.tree.Stmt.TheVariants.{Empty, Scalar, Array, Assign, Call, Break, Continue, Return, If', While', Do', For', Group'}
-use Rattle.c_tree.specs.Blocks.{is_simple, blocks}
+use Rattle.c_tree.specs.Meaning.Blocks.{is_simple, blocks}
 
 pub going_on : (st : Stmt) → is_simple st ≡ true → blocks st true ≡ 0
 unfolding blocks

@@ -4,11 +4,11 @@ use Rattle.c_tree.specs.declared.value.Value.{Value}
 use Rattle.c_tree.specs.declared.value.Slot.{Slot}
 use Rattle.c_tree.specs.declared.value.Slot.TheVariants.{Numbers}
 use Rattle.c_tree.specs.declared.value.Store.{Store}
-use Rattle.c_tree.specs.Values.{convert}
+use Rattle.c_tree.specs.Meaning.Values.{convert}
 
-abbrev pub changed : Bool → Store → Option Store
-changed true s = Some s
-changed false s = None
+abbrev pub store_if_changed : Bool → Store → Option Store
+store_if_changed true s = Some s
+store_if_changed false s = None
 
 abbrev pub changed_list : Bool → List Slot → Option (List Slot)
 changed_list true xs = Some xs

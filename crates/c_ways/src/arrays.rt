@@ -1,8 +1,8 @@
 //! The numbers of arrays (C11 6.7.9).
 
 ghost use Rattle.std.specs.Prelude.{◌≡◌, IfOk};
-ghost use Rattle.c_tree.specs.Values as values;
-ghost use Rattle.c_tree.specs.Stores as stores;
+ghost use Rattle.c_tree.specs.Meaning.Values as values;
+ghost use Rattle.c_tree.specs.Meaning.Stores as stores;
 
 use c_semantics::{convert, zero_of};
 use c_tree::{NoMemory, Ty, Value};
@@ -11,7 +11,7 @@ use std::alloc::Global;
 
 // The values, each converted to the type.
 fn converted(alloc: Global, ty: Ty, from: &[Value]) -> Result<Items<Value>, NoMemory>
-    ensures { IfOk result (λ vs. vs ≡ values.converted ty from.now) }
+    ensures { IfOk result (λ vs. vs ≡ values.converted_values ty from.now) }
 {
     let mut list = Items::new(alloc);
     for v in from {
@@ -27,7 +27,7 @@ pub fn padded(
     length: usize,
     values: &[Value],
 ) -> Result<Items<Value>, NoMemory>
-    ensures { IfOk result (λ vs. vs ≡ stores.padded ty length values.now) }
+    ensures { IfOk result (λ vs. vs ≡ stores.padded_list ty length values.now) }
 {
     let mut list = converted(alloc, ty, values)?;
     let missing = length.saturating_sub(values.len());

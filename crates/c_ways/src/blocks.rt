@@ -1,8 +1,8 @@
 //! The costs of blocks that are entered, modulo 2^128.
 
 ghost use Rattle.std.specs.Prelude.{◌≡◌, ◌+◌, ◌%◌, ◌^◌, true, false};
-ghost use Rattle.c_tree.specs.Statements.{block};
-ghost use Rattle.c_tree.specs.Claims.{block_cost};
+ghost use Rattle.c_tree.specs.Meaning.Statements.{block};
+ghost use Rattle.c_tree.specs.Meaning.Claims.{block_cost};
 
 use c_tree::Costs;
 

@@ -2,8 +2,8 @@
 //! holds, and is answered by want of memory.
 
 ghost use Rattle.std.specs.Prelude.{◌≡◌, ◌+◌, false, IfOk};
-ghost use Rattle.c_tree.specs.Blocks as spec;
-ghost use Rattle.c_tree.specs.Statements.{held};
+ghost use Rattle.c_tree.specs.Meaning.Blocks as spec;
+ghost use Rattle.c_tree.specs.Meaning.Statements.{held_stmts};
 
 use c_semantics::is_simple;
 use c_tree::{NoMemory, Stmt};
@@ -37,7 +37,7 @@ pub fn stmt_blocks(stmt: &Stmt, run: bool) -> Result<usize, NoMemory>
 
 /// The same of an initialiser or a step of a `for`.
 pub fn held_blocks(stmt: &Option<Boxed<Stmt>>) -> Result<usize, NoMemory>
-    ensures { IfOk result (λ n. n ≡ spec.list_blocks (held stmt.now) false) }
+    ensures { IfOk result (λ n. n ≡ spec.list_blocks (held_stmts stmt.now) false) }
 {
     match stmt {
         None => Ok(0),

@@ -1,8 +1,8 @@
 //! Loops as their runs see them (C11 6.8.5).
 
 ghost use Rattle.std.specs.Prelude.{◌≡◌, ◌+◌, false, None, option_copied, IfOk};
-ghost use Rattle.c_tree.specs.Blocks.{list_blocks};
-ghost use Rattle.c_tree.specs.Statements.{held};
+ghost use Rattle.c_tree.specs.Meaning.Blocks.{list_blocks};
+ghost use Rattle.c_tree.specs.Meaning.Statements.{held_stmts};
 
 use crate::counts::{held_blocks, list_blocks, plus};
 use c_tree::{Expr, NoMemory, Stmt};
@@ -38,7 +38,14 @@ pub fn while_loop<'a>(
     body: &'a [Stmt],
     at: usize,
 ) -> Result<Loop<'a>, NoMemory>
-    ensures { IfOk result (λ l. l ≡ record { condition = condition.entry; step = None; body = body.entry; at = at; body_at = at + 1; left = bound }) }
+    ensures { IfOk result (λ l. l ≡ record {
+      condition = condition.entry;
+      step = None;
+      body = body.entry;
+      at = at;
+      body_at = at + 1;
+      left = bound;
+    }) }
 {
     Ok(Loop {
         condition,
@@ -57,7 +64,14 @@ pub fn do_loop<'a>(
     condition: &'a Expr,
     at: usize,
 ) -> Result<DoLoop<'a>, NoMemory>
-    ensures { IfOk result (λ l. l ≡ record { condition = condition.entry; body = body.entry; at = at + list_blocks body.now false; body_at = at; left = bound }) }
+    ensures { IfOk result (λ l. l ≡ record {
+      condition = condition.entry;
+      body = body.entry;
+      at = at
+          + list_blocks body.now false;
+      body_at = at;
+      left = bound;
+    }) }
 {
     Ok(DoLoop {
         condition,
@@ -80,7 +94,7 @@ pub fn for_loop<'a>(
     ensures step { IfOk result (λ l. option_copied l.step ≡ step.now) }
     ensures body { IfOk result (λ l. l.body ≡ body.entry) }
     ensures at { IfOk result (λ l. l.at ≡ at) }
-    ensures body_at { IfOk result (λ l. l.body_at ≡ at + 1 + list_blocks (held step.now) false) }
+    ensures body_at { IfOk result (λ l. l.body_at ≡ at + 1 + list_blocks (held_stmts step.now) false) }
     ensures left { IfOk result (λ l. l.left ≡ bound) }
 {
     let body_at = plus(plus(at, 1)?, held_blocks(step)?)?;

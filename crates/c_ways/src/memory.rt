@@ -2,8 +2,8 @@
 
 ghost use Rattle.std.specs.Prelude.{◌≡◌, option_copied, slice_get, slice_set};
 ghost use Rattle.c_tree.specs.declared.value.Store.{Store};
-ghost use Rattle.c_tree.specs.Stores as spec;
-ghost use Rattle.c_ways.specs.Changed.{changed, changed_list, with_element};
+ghost use Rattle.c_tree.specs.Meaning.Stores as spec;
+ghost use Rattle.c_ways.specs.Changed.{store_if_changed, changed_list, with_element};
 
 use c_semantics::{convert, ty_of};
 use c_tree::{Slot, Ty, Value, Var};
@@ -97,7 +97,7 @@ impl Memory {
 
     /// Assigns to an element, converting to its type; tells whether that is defined.
     pub fn put_at(&mut self, var: Var, at: u32, v: Value) -> bool
-        ensures { changed result self.new ≡ spec.put_at self.old var (spec.slot self.old var) at v }
+        ensures { store_if_changed result self.new ≡ spec.put_at self.old var (spec.slot self.old var) at v }
     {
         match var {
             Var::Local(n) => set_element(&mut self.locals, n, at, v),

@@ -1,8 +1,8 @@
 //! The slots of a function's locals as a call begins (C11 6.5.2.2, 6.7.9).
 
 ghost use Rattle.std.specs.Prelude.{◌≡◌, option_copied, IfOk};
-ghost use Rattle.c_tree.specs.Statements as spec;
-ghost use Rattle.c_tree.specs.Runs as runs;
+ghost use Rattle.c_tree.specs.Meaning.Statements as spec;
+ghost use Rattle.c_tree.specs.Meaning.Runs as runs;
 ghost use Rattle.c_ways.specs.Slots as words;
 
 use crate::arrays::padded;
@@ -34,7 +34,7 @@ fn fresh(alloc: Global, ty: Ty, length: Option<u32>) -> Result<Slot, NoMemory>
 
 // The slot of a local as a call begins, of a parameter with its argument.
 fn entry_slot(alloc: Global, local: &Local, value: Option<&Value>) -> Result<Slot, NoMemory>
-    ensures { IfOk result (λ x. x ≡ words.entry_slot local.now (option_copied value.entry)) }
+    ensures { IfOk result (λ x. x ≡ words.parameter_slot local.now (option_copied value.entry)) }
 {
     match value {
         None => fresh(alloc, local.ty, local.length),

@@ -8,7 +8,7 @@ use c_tree::{Ty, Value, Way};
 
 /// Whether a body that ended in this way is followed by another turn.
 pub fn goes_on(way: Way) -> bool
-    ensures { result ≡ ways.goes_on way }
+    ensures { result ≡ ways.has_next_turn way }
 {
     match way {
         Way::Next => true,
@@ -20,7 +20,7 @@ pub fn goes_on(way: Way) -> bool
 
 /// The way in which a loop ends whose body ended in this way.
 pub fn past(way: Way) -> Way
-    ensures { result ≡ ways.past way }
+    ensures { result ≡ ways.way_past_loop way }
 {
     match way {
         Way::Break => Way::Next,
@@ -30,7 +30,7 @@ pub fn past(way: Way) -> Way
 
 /// What a function of this result comes back with whose list ended in this way.
 pub fn returned(ty: Option<Ty>, way: Way) -> Option<Value>
-    ensures { result ≡ ways.returned ty way }
+    ensures { result ≡ ways.way_result ty way }
 {
     let Way::Return(value) = way else {
         return None;

@@ -6,9 +6,9 @@ unfoldable pub next_state : ℕ → ℕ
 next_state s = (s * 25173 + 13849) % 65536
 
 -- the state after so many draws; a case's first state is its number
-abbrev pub state : ℕ → ℕ → ℕ
-state first zero = first
-state first (suc draws) = next_state (state first draws)
+abbrev pub draw_state : ℕ → ℕ → ℕ
+draw_state first zero = first
+draw_state first (suc draws) = next_state (draw_state first draws)
 
 -- the number below `limit` that is drawn at a state
 abbrev pub drawn_at : ℕ → ℕ → ℕ
@@ -16,4 +16,4 @@ drawn_at s limit = (s / 8) % limit
 
 -- draw number n, the first of which is draw 1: a number below `limit`
 abbrev pub draw : ℕ → ℕ → ℕ → ℕ
-draw first n limit = drawn_at (state first n) limit
+draw first n limit = drawn_at (draw_state first n) limit

@@ -8,11 +8,11 @@ use Rattle.case_maker.specs.Draws.{draw}
 use Rattle.case_maker.specs.Segments.{name_of}
 
 -- a line with its line feed, and the text of some lines
-abbrev pub ended : List ℕ → List ℕ
-ended line = line ++ codes "\n"
+abbrev pub ended_line : List ℕ → List ℕ
+ended_line line = line ++ codes "\n"
 
-abbrev pub lined : List (List ℕ) → List ℕ
-lined lines = flat_map ended lines
+abbrev pub joined_lines : List (List ℕ) → List ℕ
+joined_lines lines = flat_map ended_line lines
 
 abbrev pub if_line : Variable → ℕ → List ℕ
 if_line v c = codes "    if (" ++ name_of v ++ codes " > " ++ decimal c ++ codes "u) r = r + 1u;"
@@ -20,8 +20,8 @@ if_line v c = codes "    if (" ++ name_of v ++ codes " > " ++ decimal c ++ codes
 abbrev pub if_else_line : Variable → ℕ → List ℕ
 if_else_line v c = codes "    if (" ++ name_of v ++ codes " == " ++ decimal c ++ codes "u) r = r + 2u; else r = r ^ 1u;"
 
-abbrev pub bound_line : ℕ → List ℕ
-bound_line b = codes "#pragma loopbound " ++ decimal b
+abbrev pub pragma_line : ℕ → List ℕ
+pragma_line b = codes "#pragma loopbound " ++ decimal b
 
 abbrev pub for_line : Variable → ℕ → List ℕ
 for_line v b = codes "    for (i = 0u; i < (" ++ name_of v ++ codes " & " ++ decimal b ++ codes "u); i++) r = r + 3u;"
@@ -30,18 +30,19 @@ for_line v b = codes "    for (i = 0u; i < (" ++ name_of v ++ codes " & " ++ dec
 abbrev pub segment_lines : Segment → List (List ℕ)
 segment_lines (If v c) = if_line v c ∷ []
 segment_lines (IfElse v c) = if_else_line v c ∷ []
-segment_lines (For v b) = bound_line b ∷ for_line v b ∷ []
+segment_lines (For v b) = pragma_line b ∷ for_line v b ∷ []
 
 -- the lines before and after the segments
 abbrev pub head_lines : List (List ℕ)
-head_lines = codes "int main(unsigned a, unsigned b) {" ∷ codes "    unsigned r = 0u;" ∷ codes "    unsigned i = 0u;" ∷ []
+head_lines = codes "int main(unsigned a, unsigned b) {" ∷ codes "    unsigned r = 0u;" ∷ codes "    unsigned i = 0u;"
+    ∷ []
 
-abbrev pub last_lines : List (List ℕ)
-last_lines = codes "    return 0;" ∷ codes "}" ∷ []
+abbrev pub ending_lines : List (List ℕ)
+ending_lines = codes "    return 0;" ∷ codes "}" ∷ []
 
 -- a program
 abbrev pub program_text : List Segment → List ℕ
-program_text ss = lined (head_lines ++ flat_map segment_lines ss ++ last_lines)
+program_text ss = joined_lines (head_lines ++ flat_map segment_lines ss ++ ending_lines)
 
 -- the cost of a block of `main`
 abbrev pub cost_line : ℕ → ℕ → List ℕ
@@ -56,4 +57,4 @@ table_head = codes "version = 1" ∷ codes "default = 1" ∷ codes "[cost]" ∷ 
 
 -- a table of costs
 abbrev pub table_text : ℕ → ℕ → List ℕ
-table_text first blocks = lined (table_head ++ cost_lines first blocks)
+table_text first blocks = joined_lines (table_head ++ cost_lines first blocks)

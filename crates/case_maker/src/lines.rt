@@ -2,7 +2,7 @@
 
 ghost use Rattle.std.specs.Prelude.{◌≡◌, ◌++◌, decimal, OnOk};
 ghost use Rattle.case_maker.specs.Segments.{name_of};
-ghost use Rattle.case_maker.specs.Lines.{ended, if_line, if_else_line, bound_line, for_line, cost_line};
+ghost use Rattle.case_maker.specs.Lines.{ended_line, if_line, if_else_line, pragma_line, for_line, cost_line};
 
 use crate::segment::Variable;
 use itoa::Buffer;
@@ -14,7 +14,7 @@ pub(crate) fn push_if(
     variable: Variable,
     constant: u16,
 ) -> Result<(), AllocError>
-    ensures { OnOk result (text.new.items ≡ text.old.items ++ ended (if_line variable constant)) }
+    ensures { OnOk result (text.new.items ≡ text.old.items ++ ended_line (if_line variable constant)) }
 {
     push_around(
         text,
@@ -32,7 +32,7 @@ pub(crate) fn push_if_else(
     variable: Variable,
     constant: u16,
 ) -> Result<(), AllocError>
-    ensures { OnOk result (text.new.items ≡ text.old.items ++ ended (if_else_line variable constant)) }
+    ensures { OnOk result (text.new.items ≡ text.old.items ++ ended_line (if_else_line variable constant)) }
 {
     push_around(
         text,
@@ -46,7 +46,7 @@ pub(crate) fn push_if_else(
 
 /// The line of a `for`.
 pub(crate) fn push_for(text: &mut Vec<u8>, variable: Variable, bound: u16) -> Result<(), AllocError>
-    ensures { OnOk result (text.new.items ≡ text.old.items ++ ended (for_line variable bound)) }
+    ensures { OnOk result (text.new.items ≡ text.old.items ++ ended_line (for_line variable bound)) }
 {
     push_around(
         text,
@@ -67,7 +67,8 @@ fn push_around(
     number: u16,
     after: &[u8],
 ) -> Result<(), AllocError>
-    ensures { OnOk result (text.new.items ≡ text.old.items ++ ended (before.now ++ name_of variable ++ between.now ++ decimal number ++ after.now)) }
+    ensures { OnOk result (text.new.items ≡ text.old.items ++ ended_line (before.now ++ name_of variable ++ between.now
+        ++ decimal number ++ after.now)) }
 {
     text.extend_from_slice(before)?;
     text.extend_from_slice(variable.name())?;
@@ -78,7 +79,7 @@ fn push_around(
 
 /// The line that gives the bound of the loop below it.
 pub(crate) fn push_bound(text: &mut Vec<u8>, bound: u16) -> Result<(), AllocError>
-    ensures { OnOk result (text.new.items ≡ text.old.items ++ ended (bound_line bound)) }
+    ensures { OnOk result (text.new.items ≡ text.old.items ++ ended_line (pragma_line bound)) }
 {
     text.extend_from_slice(b"#pragma loopbound ")?;
     push_number(text, u32::from(bound))?;
@@ -87,7 +88,7 @@ pub(crate) fn push_bound(text: &mut Vec<u8>, bound: u16) -> Result<(), AllocErro
 
 /// The line that gives the cost of a block of `main`.
 pub(crate) fn push_cost(text: &mut Vec<u8>, number: u32, cost: u16) -> Result<(), AllocError>
-    ensures { OnOk result (text.new.items ≡ text.old.items ++ ended (cost_line number cost)) }
+    ensures { OnOk result (text.new.items ≡ text.old.items ++ ended_line (cost_line number cost)) }
 {
     text.extend_from_slice(b"\"main:")?;
     push_number(text, number)?;
@@ -98,7 +99,7 @@ pub(crate) fn push_cost(text: &mut Vec<u8>, number: u32, cost: u16) -> Result<()
 
 /// A line, or the rest of one, and its line feed.
 pub(crate) fn push_line(text: &mut Vec<u8>, line: &[u8]) -> Result<(), AllocError>
-    ensures { OnOk result (text.new.items ≡ text.old.items ++ ended line.now) }
+    ensures { OnOk result (text.new.items ≡ text.old.items ++ ended_line line.now) }
 {
     text.extend_from_slice(line)?;
     text.extend_from_slice(b"\n")

@@ -2,9 +2,9 @@
 
 ghost use Rattle.std.specs.Prelude.{◌≡◌, ◌*◌, ◌++◌, ◌≤◌, length, IfOk, OnOk};
 ghost use Rattle.std.specs.List.{flat_map, sum_by};
-ghost use Rattle.case_maker.specs.Draws.{state};
-ghost use Rattle.case_maker.specs.Segments.{segments, blocks_of, blocks};
-ghost use Rattle.case_maker.specs.Lines.{lined, segment_lines, program_text};
+ghost use Rattle.case_maker.specs.Draws.{draw_state};
+ghost use Rattle.case_maker.specs.Segments.{segments, segment_blocks, case_blocks};
+ghost use Rattle.case_maker.specs.Lines.{joined_lines, segment_lines, program_text};
 
 use crate::draws::Draws;
 use crate::lines::{push_bound, push_for, push_if, push_if_else, push_line};
@@ -18,7 +18,7 @@ pub(crate) fn draw_segments(
     size: u32,
 ) -> Result<Vec<Segment>, AllocError>
     ensures segments { IfOk result (λ drawn. drawn.items ≡ segments draws.old.state size) }
-    ensures state { OnOk result (draws.new.state ≡ state draws.old.state (3 * size)) }
+    ensures state { OnOk result (draws.new.state ≡ draw_state draws.old.state (3 * size)) }
 {
     let mut segments = Vec::new(alloc);
     for _number in 0..size {
@@ -30,14 +30,14 @@ pub(crate) fn draw_segments(
 /// The number of blocks of `main`: one of the head's declarations, those of the segments, and one of the `return`.
 pub(crate) fn count_blocks(segments: &[Segment]) -> u32
     requires { length segments.now ≤ 64 }
-    ensures { result ≡ blocks segments.now }
+    ensures { result ≡ case_blocks segments.now }
 {
     1 + count_inner(segments) + 1
 }
 
 fn count_inner(segments: &[Segment]) -> u32
     requires { length segments.now ≤ 64 }
-    ensures { result ≡ sum_by blocks_of segments.now }
+    ensures { result ≡ sum_by segment_blocks segments.now }
 {
     segments.iter().map(|segment| segment.blocks()).sum()
 }
@@ -57,7 +57,7 @@ pub(crate) fn program(alloc: Global, segments: &[Segment]) -> Result<Vec<u8>, Al
 }
 
 fn push_segments(text: &mut Vec<u8>, segments: &[Segment]) -> Result<(), AllocError>
-    ensures { OnOk result (text.new.items ≡ text.old.items ++ lined (flat_map segment_lines segments.now)) }
+    ensures { OnOk result (text.new.items ≡ text.old.items ++ joined_lines (flat_map segment_lines segments.now)) }
 {
     for segment in segments {
         push_segment(text, *segment)?;
@@ -66,7 +66,7 @@ fn push_segments(text: &mut Vec<u8>, segments: &[Segment]) -> Result<(), AllocEr
 }
 
 fn push_segment(text: &mut Vec<u8>, segment: Segment) -> Result<(), AllocError>
-    ensures { OnOk result (text.new.items ≡ text.old.items ++ lined (segment_lines segment)) }
+    ensures { OnOk result (text.new.items ≡ text.old.items ++ joined_lines (segment_lines segment)) }
 {
     match segment {
         Segment::If(variable, constant) => push_if(text, variable, constant),

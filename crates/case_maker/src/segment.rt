@@ -1,8 +1,8 @@
 //! The segments of a made program.
 
 ghost use Rattle.std.specs.Prelude.{◌≡◌, ◌≤◌, ◌<◌};
-ghost use Rattle.case_maker.specs.Draws.{state, draw};
-ghost use Rattle.case_maker.specs.Segments.{variable_of, name_of, segment_of, segment_at, blocks_of};
+ghost use Rattle.case_maker.specs.Draws.{draw_state, draw};
+ghost use Rattle.case_maker.specs.Segments.{drawn_variable, name_of, segment_of, segment_at, segment_blocks};
 
 use crate::draws::Draws;
 
@@ -15,8 +15,8 @@ pub(crate) enum Variable {
 
 impl Variable {
     fn drawn(draws: &mut Draws) -> Variable
-        ensures variable { result ≡ variable_of (draw draws.old.state 1 2) }
-        ensures state { draws.new.state ≡ state draws.old.state 1 }
+        ensures variable { result ≡ drawn_variable (draw draws.old.state 1 2) }
+        ensures state { draws.new.state ≡ draw_state draws.old.state 1 }
     {
         if draws.below(2) == 0 {
             Variable::A
@@ -51,7 +51,7 @@ impl Segment {
     /// The segment of the next three draws.
     pub(crate) fn drawn(draws: &mut Draws) -> Segment
         ensures segment { result ≡ segment_at draws.old.state 0 }
-        ensures state { draws.new.state ≡ state draws.old.state 3 }
+        ensures state { draws.new.state ≡ draw_state draws.old.state 3 }
     {
         let kind = draws.below(3);
         let variable = Variable::drawn(draws);
@@ -65,7 +65,7 @@ impl Segment {
 
     /// The number of its blocks.
     pub(crate) fn blocks(self) -> u32
-        ensures value { result ≡ blocks_of self }
+        ensures value { result ≡ segment_blocks self }
         ensures few { result ≤ 4 }
     {
         match self {

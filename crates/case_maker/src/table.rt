@@ -1,7 +1,7 @@
 //! The table of costs of a case.
 
 ghost use Rattle.std.specs.Prelude.{◌≡◌, ◌++◌, IfOk, OnOk};
-ghost use Rattle.case_maker.specs.Lines.{lined, cost_lines, table_text};
+ghost use Rattle.case_maker.specs.Lines.{joined_lines, cost_lines, table_text};
 
 use crate::draws::Draws;
 use crate::lines::{push_cost, push_line};
@@ -20,7 +20,7 @@ pub(crate) fn table(alloc: Global, draws: &mut Draws, blocks: u32) -> Result<Vec
 }
 
 fn push_costs(text: &mut Vec<u8>, draws: &mut Draws, blocks: u32) -> Result<(), AllocError>
-    ensures { OnOk result (text.new.items ≡ text.old.items ++ lined (cost_lines draws.old.state blocks)) }
+    ensures { OnOk result (text.new.items ≡ text.old.items ++ joined_lines (cost_lines draws.old.state blocks)) }
 {
     for number in 0..blocks {
         push_cost(text, number, 1 + draws.below(20))?;

@@ -1,5 +1,29 @@
 -- The forms of the texts of formulas and logs, as they are read. They say nothing of how a text is read or written.
-use Rattle.std.specs.Prelude.{◌≡◌, ◌==◌, ℕ, ℤ, pos, ◌≤◌, ◌^◌, ◌<◌, Bool, true, false, not, ◌||◌, List, [], ◌∷◌, ◌++◌, length, codes, map, filter, All, if◌then◌else◌}
+use Rattle.std.specs.Prelude.{
+  ◌≡◌,
+  ◌==◌,
+  ℕ,
+  ℤ,
+  pos,
+  ◌≤◌,
+  ◌^◌,
+  ◌<◌,
+  Bool,
+  true,
+  false,
+  not,
+  ◌||◌,
+  List,
+  [],
+  ◌∷◌,
+  ◌++◌,
+  length,
+  codes,
+  map,
+  filter,
+  All,
+  if◌then◌else◌,
+}
 use Rattle.std.specs.List.{flat_map}
 use Rattle.std.specs.Fmt.{decimal, signed_decimal}
 use Rattle.cnf_form.specs.declared.log.LogLine.{LogLine}

@@ -4,7 +4,11 @@ use Rattle.std.specs.List.{flat_map}
 use Rattle.std.specs.Fmt.{decimal}
 use Rattle.cnf_form.specs.declared.log.LogLine.{LogLine}
 use Rattle.cnf_form.specs.declared.log_head.LogHead.{LogHead}
-use Rattle.cnf_form.specs.declared.log_head.LogHead.TheVariants.{Is as HeadIs, MayGrow as HeadMayGrow, Breaks as HeadBreaks}
+use Rattle.cnf_form.specs.declared.log_head.LogHead.TheVariants.{
+  Is as HeadIs,
+  MayGrow as HeadMayGrow,
+  Breaks as HeadBreaks,
+}
 use Rattle.cnf_form.specs.declared.log_line.LogCourse.{LogCourse}
 use Rattle.cnf_form.specs.declared.log_line.LogCourse.TheVariants.{Is, MayGrow, Breaks}
 use Rattle.cnf_form.specs.Literals.{most}

@@ -11,4 +11,5 @@ IsNumberOf limit bytes answer =
 -- the same of an integer with this magnitude at most
 abbrev pub IsIntegerOf : List ℕ → Option ℤ → Type 0
 IsIntegerOf bytes answer =
-    MatchOption answer ((z : ℤ) → unsigned_abs z ≤ most → bytes ≢ signed_decimal z) (λ z. (unsigned_abs z ≤ most) × (bytes ≡ signed_decimal z))
+    MatchOption answer ((z : ℤ) → unsigned_abs z ≤ most → bytes ≢ signed_decimal z) (λ z. (unsigned_abs z ≤ most)
+    × (bytes ≡ signed_decimal z))

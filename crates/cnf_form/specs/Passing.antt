@@ -20,7 +20,8 @@ pub record AreComments (before : List ℕ) : Type 0 where
   pub told : told_lines before ≡ []
 
 -- there is a head, and the lines behind it have these words
-pub record AreClauseLines (May : List ℕ → Type 0) (before : List ℕ) (variables count : ℕ) (seen : List (List ℕ)) : Type 0 where
+pub record AreClauseLines (May : List ℕ → Type 0) (before : List ℕ) (variables count : ℕ) (seen : List (List ℕ)) : Type
+    0 where
   pub head : List ℕ
   pub body : List (List ℕ)
   pub told : told_lines before ≡ head ∷ body
@@ -29,7 +30,8 @@ pub record AreClauseLines (May : List ℕ → Type 0) (before : List ℕ) (varia
 
 -- no line that goes on from this one is a head
 pub record IsNoHead (line : List ℕ) : Type 0 where
-  pub never : (more : List ℕ) (variables count : ℕ) → (EndsInFeed line → more ≡ []) → ¬ IsHead (line ++ more) variables count
+  pub never : (more : List ℕ) (variables count : ℕ) → (EndsInFeed line → more ≡ []) → ¬ IsHead (line ++ more) variables
+      count
 
 -- the line has no line feed and is no head, and further bytes make it one
 pub record StopsInHead (line : List ℕ) : Type 0 where
@@ -61,4 +63,5 @@ pub record BeginsApart (more : List ℕ) : Type 0 where
 pub record UpTo (seen : List (List ℕ)) (line rest : List ℕ) (now : List (List ℕ)) : Type 0 where
   pub before : List ℕ
   pub split : line ≡ before ++ rest
-  pub same : (more : List ℕ) → (length rest ≡ 0 → BeginsApart more) → seen ++ words (line ++ more) ≡ now ++ words (rest ++ more)
+  pub same : (more : List ℕ) → (length rest ≡ 0 → BeginsApart more) → seen ++ words (line ++ more) ≡ now
+      ++ words (rest ++ more)

@@ -34,4 +34,5 @@ pub record BehindHead (text rest : List ℕ) (line variables count : ℕ) : Type
 pub record InClauses (text rest : List ℕ) (line : ℕ) (front : Front) : Type 0 where
   pub before : List ℕ
   pub is_at : IsAt text before rest line
-  pub clauses : AreClauseLines (MayFollow rest) before front.variables front.count (front_words front.clauses.items front.literals.items)
+  pub clauses : AreClauseLines (MayFollow rest) before front.variables front.count (front_words front.clauses.items
+      front.literals.items)

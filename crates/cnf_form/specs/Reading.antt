@@ -1,5 +1,27 @@
 -- The clauses of a formula while its words are read one by one.
-use Rattle.std.specs.Prelude.{◌≡◌, ◌==◌, ◌≤◌, ◌<◌, ◌*◌, ◌^◌, ℕ, ℤ, pos, nat_eq, true, false, List, [], ◌∷◌, ◌++◌, ◌⊎◌, length, map, unsigned_abs, All}
+use Rattle.std.specs.Prelude.{
+  ◌≡◌,
+  ◌==◌,
+  ◌≤◌,
+  ◌<◌,
+  ◌*◌,
+  ◌^◌,
+  ℕ,
+  ℤ,
+  pos,
+  nat_eq,
+  true,
+  false,
+  List,
+  [],
+  ◌∷◌,
+  ◌++◌,
+  ◌⊎◌,
+  length,
+  map,
+  unsigned_abs,
+  All,
+}
 use Rattle.std.specs.List.{list_any}
 use Rattle.std.specs.Fmt.{signed_decimal}
 use Rattle.std.specs.HashSet.{contains}
@@ -36,7 +58,8 @@ unfoldable pub front_words : List (List ℤ) → List ℤ → List (List ℕ)
 front_words clauses literals = map signed_decimal (numbers_of clauses ++ literals)
 
 -- a word with which they go on: the 0 that ends the clause, or a new literal
-pub record GoesOnBy (variables count : ℕ) (clauses : List (List ℤ)) (literals : List ℤ) (word : List ℕ) (number : ℤ) : Type 0 where
+pub record GoesOnBy (variables count : ℕ) (clauses : List (List ℤ)) (literals : List ℤ) (word : List ℕ) (number : ℤ) :
+    Type 0 where
   pub room : length clauses < count
   pub written : word ≡ signed_decimal number
   pub fits : (number ≡ pos 0) ⊎ IsNew variables literals number
@@ -100,13 +123,16 @@ pub record WentOn (old new : Front) (line : List ℕ) : Type 0 where
   pub keeps : Keeps new
   pub variables : new.variables ≡ old.variables
   pub count : new.count ≡ old.count
-  pub same : front_words new.clauses.items new.literals.items ≡ front_words old.clauses.items old.literals.items ++ words line
+  pub same : front_words new.clauses.items new.literals.items ≡ front_words old.clauses.items old.literals.items
+      ++ words line
 
 -- how a line goes with the clauses before it
 abbrev pub TakesLine : Front → Front → List ℕ → Course → Type 0
 TakesLine old new line Fits = WentOn old new line
-TakesLine old new line MayGrow = StopsShort old.variables old.count (front_words old.clauses.items old.literals.items) line
-TakesLine old new line Breaks = BreaksOff old.variables old.count (front_words old.clauses.items old.literals.items) line
+TakesLine old new line MayGrow = StopsShort old.variables old.count (front_words old.clauses.items old.literals.items)
+    line
+TakesLine old new line Breaks = BreaksOff old.variables old.count (front_words old.clauses.items old.literals.items)
+    line
 
 -- the same of a line that may be a comment, which changes nothing
 pub record SkipsComment (old new : Front) (line : List ℕ) (course : Course) : Type 0 where

@@ -15,7 +15,8 @@ clause_text literals = literals_text literals ++ codes "0\n"
 -- a formula: the numbers of its variables and its clauses, and then its clauses
 abbrev pub cnf_text : ℕ → List (List ℤ) → List ℕ
 cnf_text variables clauses =
-    codes "p cnf " ++ decimal variables ++ codes " " ++ decimal (length clauses) ++ codes "\n" ++ flat_map clause_text clauses
+    codes "p cnf " ++ decimal variables ++ codes " " ++ decimal (length clauses) ++ codes "\n"
+    ++ flat_map clause_text clauses
 
 -- the hints of a line: a blank before each, and each number one greater, since 0 ends them
 abbrev pub hints_text : List ℕ → List ℕ

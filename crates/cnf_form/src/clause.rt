@@ -8,8 +8,8 @@ use std::alloc::{AllocError, Global};
 use std::marker::Model;
 use wc_outside::NoMemory;
 
-/// A clause: a disjunction of literals, which contracts see as their list. A literal is the number of a variable, from 1
-/// to 2,147,483,647, or that number negated. No two literals are of one variable. The empty clause is false.
+/// A clause: a disjunction of literals, which contracts see as their list. A literal is the number of a variable, from
+/// 1 to 2,147,483,647, or that number negated. No two literals are of one variable. The empty clause is false.
 #[derive(Debug, Drop)]
 pub struct Clause {
     literals: SmallVec<i32, 4>,

@@ -25,7 +25,8 @@ impl Cnf {
     /// The formula of these clauses over so many variables; `None` exactly where there are too many variables or
     /// clauses, or a clause names a variable above `variables`. It takes no memory.
     pub fn new(variables: u32, clauses: Vec<Clause>) -> Option<Cnf>
-        ensures made { IsSome result ↔ ((variables ≤ most) × (length clauses.items ≤ most) × All (NamesUpTo variables) clauses.items) }
+        ensures made { IsSome result ↔ ((variables ≤ most) × (length clauses.items ≤ most) × All (NamesUpTo variables)
+            clauses.items) }
         ensures variables { IfSome result (λ cnf. cnf.variables ≡ variables) }
         ensures clauses { IfSome result (λ cnf. cnf.clauses ≡ clauses.items) }
     {

@@ -49,7 +49,8 @@ pub fn read_cnf(alloc: Global, text: &[u8]) -> Result<Cnf, FormFault>
 // The text up to and with the line `p cnf V C`, or the line at which it leaves the form.
 fn read_opening(text: &[u8]) -> Result<Opening<'_>, u32>
     requires { length text.now < 2 ^ 32 }
-    ensures read { IfOk result (λ opening. BehindHead text.now opening.rest.now opening.line opening.variables opening.count) }
+    ensures read { IfOk result (λ opening. BehindHead text.now opening.rest.now opening.line opening.variables
+        opening.count) }
     ensures few_variables { IfOk result (λ opening. opening.variables ≤ most) }
     ensures few_clauses { IfOk result (λ opening. opening.count ≤ most) }
     ensures fault { IfErr result (LeavesAt IsFormulaText text.now) }

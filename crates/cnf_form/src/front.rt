@@ -1,9 +1,38 @@
 //! The clauses of a formula while they are read: those that have ended, and the literals of one that has not.
 
-ghost use Rattle.std.specs.Prelude.{◌≡◌, ◌<◌, ◌≤◌, ◌*◌, ◌^◌, ◌↔◌, [], ◌∷◌, ◌++◌, pos, IsTrue, OnOk, MatchOption, unsigned_abs, ℤ, ℕ, List, length, codes};
+ghost use Rattle.std.specs.Prelude.{
+  ◌≡◌,
+  ◌<◌,
+  ◌≤◌,
+  ◌*◌,
+  ◌^◌,
+  ◌↔◌,
+  [],
+  ◌∷◌,
+  ◌++◌,
+  pos,
+  IsTrue,
+  OnOk,
+  MatchOption,
+  unsigned_abs,
+  ℤ,
+  ℕ,
+  List,
+  length,
+  codes,
+};
 ghost use Rattle.std.specs.Fmt.{signed_decimal};
 ghost use Rattle.cnf_form.specs.Literals.{most};
-ghost use Rattle.cnf_form.specs.Reading.{IsUnnamed, IsNew, GoesOnBy, Grows, LeadsToNew, LeadsAtOnce, Keeps, front_words};
+ghost use Rattle.cnf_form.specs.Reading.{
+  IsUnnamed,
+  IsNew,
+  GoesOnBy,
+  Grows,
+  LeadsToNew,
+  LeadsAtOnce,
+  Keeps,
+  front_words,
+};
 
 use crate::clause::Clause;
 use crate::cnf::Cnf;
@@ -59,8 +88,10 @@ impl Front {
     pub(crate) fn next_number(&self, word: &[u8]) -> Option<i32>
         requires { Keeps self.now }
         ensures { MatchOption result
-            ((number : ℤ) → ¬ GoesOnBy self.now.variables self.now.count self.now.clauses.items self.now.literals.items word.now number)
-            (λ number. GoesOnBy self.now.variables self.now.count self.now.clauses.items self.now.literals.items word.now number) }
+            ((number : ℤ) → ¬ GoesOnBy self.now.variables self.now.count self.now.clauses.items self.now.literals.items
+            word.now number)
+            (λ number. GoesOnBy self.now.variables self.now.count self.now.clauses.items self.now.literals.items
+            word.now number) }
     {
         if self.clauses.len() >= self.count as usize {
             return None;
@@ -86,7 +117,8 @@ impl Front {
     /// Goes on with this number.
     pub(crate) fn push(&mut self, alloc: Global, number: i32) -> Result<(), AllocError>
         requires keeps { Keeps self.old }
-        requires goes_on { GoesOnBy self.old.variables self.old.count self.old.clauses.items self.old.literals.items (signed_decimal number) number }
+        requires goes_on { GoesOnBy self.old.variables self.old.count self.old.clauses.items self.old.literals.items
+            (signed_decimal number) number }
         ensures keeps { OnOk result (Keeps self.new) }
         ensures variables { OnOk result (self.new.variables ≡ self.old.variables) }
         ensures count { OnOk result (self.new.count ≡ self.old.count) }
@@ -138,7 +170,8 @@ impl Front {
     pub(crate) fn may_grow(&self, word: &[u8]) -> bool
         requires keeps { Keeps self.now }
         requires some { 0 < length word.now }
-        ensures { IsTrue result ↔ Grows self.now.variables self.now.count self.now.clauses.items self.now.literals.items word.now }
+        ensures { IsTrue result ↔ Grows self.now.variables self.now.count self.now.clauses.items
+            self.now.literals.items word.now }
     {
         if self.clauses.len() >= self.count as usize {
             return false;

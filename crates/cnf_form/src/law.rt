@@ -8,13 +8,16 @@ ghost use Rattle.cnf_form.specs.Texts.{cnf_text, log_text};
 
 /// A text is that of at most one formula.
 pub fn one_formula()
-    ensures { (text : List ℕ) (v w : ℕ) (cs ds : List (List ℤ)) → IsCnfText text v cs → IsCnfText text w ds → (v ≡ w) × (cs ≡ ds) }
+    ensures { (text : List ℕ) (v w : ℕ) (cs ds : List (List ℤ)) → IsCnfText text v cs → IsCnfText text w ds → (v ≡ w)
+        × (cs ≡ ds) }
 {}
 
-/// The written text of a formula is a text of the form, and that of this formula alone: it is read again to an equal one.
+/// The written text of a formula is a text of the form, and that of this formula alone: it is read again to an equal
+/// one.
 pub fn read_again()
     ensures form { (v : ℕ) (cs : List (List ℤ)) → IsFormula v cs → IsCnfText (cnf_text v cs) v cs }
-    ensures same { (v w : ℕ) (cs ds : List (List ℤ)) → IsFormula v cs → IsCnfText (cnf_text v cs) w ds → (v ≡ w) × (cs ≡ ds) }
+    ensures same { (v w : ℕ) (cs ds : List (List ℤ)) → IsFormula v cs → IsCnfText (cnf_text v cs) w ds → (v ≡ w)
+        × (cs ≡ ds) }
 {}
 
 /// A text is that of at most one log.
@@ -24,6 +27,8 @@ pub fn one_log()
 
 /// The written text of a log is a text of the form, and that of this log alone: it is read again to an equal one.
 pub fn read_log_again()
-    ensures form { (lines : List LogLine) → length lines ≤ most → All IsLogLine lines → IsLogText (log_text lines) lines }
-    ensures same { (lines others : List LogLine) → length lines ≤ most → All IsLogLine lines → IsLogText (log_text lines) others → lines ≡ others }
+    ensures form { (lines : List LogLine) → length lines ≤ most → All IsLogLine lines → IsLogText (log_text lines)
+        lines }
+    ensures same { (lines others : List LogLine) → length lines ≤ most → All IsLogLine lines
+        → IsLogText (log_text lines) others → lines ≡ others }
 {}

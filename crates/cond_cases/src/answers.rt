@@ -2,14 +2,14 @@
 
 ghost use Rattle.std.specs.Prelude.{◌≡◌};
 ghost use Rattle.c_tree.specs.declared.program.Input.{Input};
-ghost use Rattle.c_tree.specs.Runs.{fits as fits_of};
+ghost use Rattle.c_tree.specs.Meaning.Runs.{fits as fits_of};
 ghost use Rattle.bv_term.specs.Stores.{fits_store};
 
 use crate::lists::{are_edges, edges_of, input_of};
-use crate::wrong::Wrong;
 use c_input::fits;
 use c_run::{RunEnd, run};
 use c_tree::Input;
+use case_plans::Wrong;
 use flow_graph::Plan;
 use path_cond::{PathCond, condition};
 use path_weight::weight;

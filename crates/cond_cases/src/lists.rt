@@ -3,8 +3,8 @@
 ghost use Rattle.std.specs.Prelude.{◌<◌, ◌↔◌, All, IsTrue, length};
 ghost use Rattle.flow_laws.specs.Graphs.{graph, edges};
 
-use crate::wrong::Wrong;
 use c_tree::Input;
+use case_plans::Wrong;
 use flow_graph::Plan;
 use sqlite_items::Items;
 use std::alloc::Global;

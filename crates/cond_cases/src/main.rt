@@ -10,14 +10,12 @@
 
 mod answers;
 mod lists;
-mod reading;
-mod wrong;
 
 use case_lines::{is_heading, parts};
+use case_plans::{Wrong, plain_plan_of};
 use flow_graph::Plan;
 use std::alloc::{AllocError, Global};
 use std::io;
-use wrong::Wrong;
 
 fn main(rt: HostRuntime) -> io::Result<()> {
     for line in rt.lines(rt.alloc()) {
@@ -43,7 +41,7 @@ fn answer(alloc: Global, line: &str) -> Result<String, AllocError> {
 
 fn answered(alloc: Global, parts: &[&str]) -> Result<String, Wrong> {
     let text = parts.get(1).copied().ok_or(Wrong::NoCase)?;
-    match reading::plan_of(alloc, text) {
+    match plain_plan_of(alloc, text) {
         Ok(plan) => told(alloc, parts, &plan),
         Err(wrong) => Err(wrong),
     }

@@ -1,4 +1,5 @@
--- Terms that are there: each number of a value, of a slot, of a store or of a memory is below k, the number of the terms. This project's own.
+-- Terms that are there: each number of a value, of a slot, of a store or of a memory is below k, the number of the
+-- terms. This project's own.
 use Rattle.std.specs.Prelude.{◌≡◌, ◌<◌, ◌^◌, ℕ, List, [], ◌∷◌, length, Option, Some, None}
 use Rattle.cond_laws.specs.declared.store.TermSlot.{TermSlot}
 use Rattle.cond_laws.specs.declared.store.TermSlot.TheVariants.{Unset, Number, Numbers}

@@ -1,5 +1,5 @@
--- Sizes that every program keeps, and terms with it: no list and no array is longer than 2^31, so that an index that is negative is
--- outside as a word too. This project's own.
+-- Sizes that every program keeps, and terms with it: no list and no array is longer than 2^31, so that an index that
+-- is negative is outside as a word too. This project's own.
 use Rattle.std.specs.Prelude.{◌≡◌, ◌≤◌, ◌^◌, ℕ, List, [], ◌∷◌, length, slice_get, Option, Some, None}
 use Rattle.c_tree.specs.declared.tree.Stmt.{Stmt}
 use Rattle.c_tree.specs.declared.tree.Stmt.TheVariants as stmt

@@ -3,8 +3,8 @@
 use c_tree::Ty;
 use sqlite_items::Items;
 
-/// A term that stands for a value: the type in which its word is read, and the terms that are all nonzero exactly where the
-/// value is defined.
+/// A term that stands for a value: the type in which its word is read, and the terms that are all nonzero exactly
+/// where the value is defined.
 #[derive(Debug, Drop)]
 pub struct Judged {
     pub ty: Ty,

@@ -1,5 +1,23 @@
--- The document that a table's bytes spell, and what its keys hold. What TOML is, `toml` says. The three keys are this project's own.
-use Rattle.std.specs.Prelude.{◌==◌, ◌||◌, codes, ℕ, pos, List, Bool, false, not, if◌then◌else◌, Option, Some, None, is_none, option_and_then, unwrap_or}
+-- The document that a table's bytes spell, and what its keys hold. What TOML is, `toml` says. The three keys are this
+-- project's own.
+use Rattle.std.specs.Prelude.{
+  ◌==◌,
+  ◌||◌,
+  codes,
+  ℕ,
+  pos,
+  List,
+  Bool,
+  false,
+  not,
+  if◌then◌else◌,
+  Option,
+  Some,
+  None,
+  is_none,
+  option_and_then,
+  unwrap_or,
+}
 use Rattle.std.specs.Bool.{nat_le}
 use Rattle.std.specs.Option.{option_or}
 use Rattle.std.specs.Ordering.{nat_cmp, is_gt}
@@ -45,8 +63,8 @@ cost_in _ = None
 -- ---- the cost of a name
 
 -- its entry, or else `default`, where that is a whole number in range
-abbrev pub given : Members → List ℕ → Option ℕ
-given ms name = option_and_then cost_in (option_or (get_member name (entries ms)) (default ms))
+abbrev pub written_cost : Members → List ℕ → Option ℕ
+written_cost ms name = option_and_then cost_in (option_or (get_member name (entries ms)) (default ms))
 
 -- ---- the first in byte order
 

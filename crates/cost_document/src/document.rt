@@ -40,7 +40,8 @@ pub fn default(document: &Table) -> Option<&Value>
 
 /// The table `cost`, where there is one.
 pub fn cost_table(document: &Table) -> Option<&Table>
-    ensures { option_map (λ t. table_view t.now) result ≡ option_and_then as_table (get_member (codes "cost") (table_view document.now)) }
+    ensures { option_map (λ t. table_view t.now) result ≡ option_and_then as_table
+        (get_member (codes "cost") (table_view document.now)) }
 {
     match value_at(document, "cost") {
         Some(value) => value.as_table(),
@@ -69,7 +70,7 @@ pub fn cost_in(value: &Value) -> Option<u32>
 
 /// The cost of the block of this name, where the table gives one: its entry, or else `default`.
 pub fn given(document: &Table, name: &[u8]) -> Option<u32>
-    ensures { result ≡ spec.given (table_view document.now) name.now }
+    ensures { result ≡ spec.written_cost (table_view document.now) name.now }
 {
     let value = match entry(document, name) {
         Some(value) => value,

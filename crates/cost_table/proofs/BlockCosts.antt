@@ -9,14 +9,14 @@ use Rattle.std.proofs.lemmas.List.FromFn.{length-map-range_with_len}
 use Rattle.toml.specs.Data.{Data, Members, get_member}
 use Rattle.c_tree.specs.declared.program.Func.{Func}
 use Rattle.c_tree.specs.declared.program.Costs.{Costs}
-use Rattle.c_tree.specs.Blocks.{list_blocks}
-use Rattle.c_tree.specs.Claims.{AreRowsOf}
+use Rattle.c_tree.specs.Meaning.Blocks.{list_blocks}
+use Rattle.c_tree.specs.Meaning.Claims.{AreRowsOf}
 use Rattle.cost_table.specs.declared.fault.CostFault.{CostFault}
 use Rattle.cost_table.specs.declared.fault.CostFault.TheVariants.{Number, Missing}
-use Rattle.cost_document.specs.Documents.{default, entries, cost_in, given}
-use Rattle.cost_table.specs.Tables.{block_name, names_of, names, first_without, first_missing, number_fault, cost_of, costs_of, fault_of, judged}
+use Rattle.cost_document.specs.Documents.{default, entries, cost_in, written_cost}
+use Rattle.cost_table.specs.Tables.{block_name, names_of, names, first_without, first_missing, number_fault, table_cost, costs_of, table_fault, table_result}
 use Rattle.cost_table.proofs.Entries.{none_fails}
-use Rattle.cost_table.proofs.KnownNames.{range_left}
+use Rattle.std.proofs.iter.Rest.{range_with_len_first}
 
 -- ---- a number for each block
 
@@ -24,17 +24,17 @@ pub are_plain : (fs : List Func) → AreRowsOf fs (map (λ (f : Func). replicate
 are_plain [] = tt
 are_plain (f ∷ fs) = (length-replicate (list_blocks f.body false) 1, are_plain fs)
 
-pub are_costs : (ms : Members) (fs : List Func) → AreRowsOf fs (map (λ (f : Func). map (cost_of ms) (names_of f)) fs)
+pub are_costs : (ms : Members) (fs : List Func) → AreRowsOf fs (map (λ (f : Func). map (table_cost ms) (names_of f)) fs)
 are_costs ms [] = tt
 are_costs ms (f ∷ fs) =
-    (length-map (names_of f) (cost_of ms) ∙ length-map-range_with_len (block_name f.name) 0 (list_blocks f.body false), are_costs ms fs)
+    (length-map (names_of f) (table_cost ms) ∙ length-map-range_with_len (block_name f.name) 0 (list_blocks f.body false), are_costs ms fs)
 
-judged_costs : (fault : Option CostFault) (t u : Costs) → judged fault t ≡ Ok u → t ≡ u
+judged_costs : (fault : Option CostFault) (t u : Costs) → table_result fault t ≡ Ok u → t ≡ u
 judged_costs None t u is = cc
 judged_costs (Some fault) t u is = absurd (cc)
 
-pub verdict_costs : (ms : Members) (fs : List Func) (t : Costs) → judged (fault_of fs ms) (costs_of fs ms) ≡ Ok t → AreRowsOf fs t.by_func
-verdict_costs ms fs t is = subst (λ (u : Costs). AreRowsOf fs u.by_func) (judged_costs (fault_of fs ms) (costs_of fs ms) t is) (are_costs ms fs)
+pub verdict_costs : (ms : Members) (fs : List Func) (t : Costs) → table_result (table_fault fs ms) (costs_of fs ms) ≡ Ok t → AreRowsOf fs t.by_func
+verdict_costs ms fs t is = subst (λ (u : Costs). AreRowsOf fs u.by_func) (judged_costs (table_fault fs ms) (costs_of fs ms) t is) (are_costs ms fs)
 
 -- ---- one block
 
@@ -53,7 +53,7 @@ neither None d good each none = (no_default d good none, refl)
 neither (Some e) d good each none = absurd (cc (each e refl))
 
 -- where no number is at fault, a block without a cost has no entry, and there is no default
-pub given_nothing : (ms : Members) (name : List ℕ) (rest : List (List ℕ)) → number_fault ms ≡ None → given ms name ≡ None → first_missing ms (name ∷ rest) ≡ Some name
+pub given_nothing : (ms : Members) (name : List ℕ) (rest : List (List ℕ)) → number_fault ms ≡ None → written_cost ms name ≡ None → first_missing ms (name ∷ rest) ≡ Some name
 given_nothing ms name rest whole none =
     let good = no_fault _ _ Number _ whole in
     let both = neither (get_member name (entries ms)) (default ms) good.0 (λ e is. none_fails (λ key d. is_none (cost_in d)) (entries ms) name e good.1 is) none in
@@ -66,7 +66,7 @@ skipped None (Some e) name rest cost is = refl
 skipped None None name rest cost is = absurd (cc)
 
 -- a block with a cost is not missing
-pub given_cost : (ms : Members) (name : List ℕ) (rest : List (List ℕ)) (cost : ℕ) → given ms name ≡ Some cost → first_missing ms (name ∷ rest) ≡ first_missing ms rest
+pub given_cost : (ms : Members) (name : List ℕ) (rest : List (List ℕ)) (cost : ℕ) → written_cost ms name ≡ Some cost → first_missing ms (name ∷ rest) ≡ first_missing ms rest
 given_cost ms name rest cost is = skipped (get_member name (entries ms)) (default ms) name (first_without (entries ms) rest) cost is
 
 -- the names from one number on
@@ -74,26 +74,26 @@ abbrev pub names_from : Func → ℕ → ℕ → List (List ℕ)
 names_from f i count = map (block_name f.name) (range_with_len i (count - i))
 
 names_left : (f : Func) (i count : ℕ) → i < count → names_from f i count ≡ block_name f.name i ∷ names_from f (i + 1) count
-names_left f i count below = ap (map (block_name f.name)) (range_left i count below)
+names_left f i count below = ap (map (block_name f.name)) (range_with_len_first i count below)
 
-pub block_missing : (ms : Members) (f : Func) (i count : ℕ) (name : List ℕ) → i < count → name ≡ block_name f.name i → number_fault ms ≡ None → given ms name ≡ None
+pub block_missing : (ms : Members) (f : Func) (i count : ℕ) (name : List ℕ) → i < count → name ≡ block_name f.name i → number_fault ms ≡ None → written_cost ms name ≡ None
     → first_missing ms (names_from f i count) ≡ first_missing ms (names_of f) → option_map Missing (first_missing ms (names_of f)) ≡ Some (Missing name)
 block_missing ms f i count name below is whole none left =
-    let here = given_nothing ms (block_name f.name i) (names_from f (i + 1) count) whole (ap (given ms) (sym is) ∙ none) in
+    let here = given_nothing ms (block_name f.name i) (names_from f (i + 1) count) whole (ap (written_cost ms) (sym is) ∙ none) in
     ap (option_map Missing) (sym left ∙ ap (first_missing ms) (names_left f i count below) ∙ here ∙ ap Some (sym is))
 
-pub block_not_missing : (ms : Members) (f : Func) (i count cost : ℕ) (name : List ℕ) → i < count → name ≡ block_name f.name i → given ms name ≡ Some cost
+pub block_not_missing : (ms : Members) (f : Func) (i count cost : ℕ) (name : List ℕ) → i < count → name ≡ block_name f.name i → written_cost ms name ≡ Some cost
     → first_missing ms (names_from f i count) ≡ first_missing ms (names_of f) → first_missing ms (names_from f (i + 1) count) ≡ first_missing ms (names_of f)
 block_not_missing ms f i count cost name below is there left =
-    let here = given_cost ms (block_name f.name i) (names_from f (i + 1) count) cost (ap (given ms) (sym is) ∙ there) in
+    let here = given_cost ms (block_name f.name i) (names_from f (i + 1) count) cost (ap (written_cost ms) (sym is) ∙ there) in
     sym here ∙ ap (first_missing ms) (sym (names_left f i count below)) ∙ left
 
-pub block_costs : (ms : Members) (f : Func) (i count cost : ℕ) (name row more all : List ℕ) → i < count → name ≡ block_name f.name i → given ms name ≡ Some cost
-    → more ≡ row ++ cost ∷ [] → row ++ map (cost_of ms) (names_from f i count) ≡ all → more ++ map (cost_of ms) (names_from f (i + 1) count) ≡ all
+pub block_costs : (ms : Members) (f : Func) (i count cost : ℕ) (name row more all : List ℕ) → i < count → name ≡ block_name f.name i → written_cost ms name ≡ Some cost
+    → more ≡ row ++ cost ∷ [] → row ++ map (table_cost ms) (names_from f i count) ≡ all → more ++ map (table_cost ms) (names_from f (i + 1) count) ≡ all
 block_costs ms f i count cost name row more all below is there pushed left =
-    let here : cost ≡ cost_of ms (block_name f.name i) = ap (λ o. unwrap_or o 0) (sym there ∙ ap (given ms) is) in
-    let rest = map (cost_of ms) (names_from f (i + 1) count) in
-    let split : cost ∷ rest ≡ map (cost_of ms) (names_from f i count) = ap (λ n. n ∷ rest) here ∙ ap (map (cost_of ms)) (sym (names_left f i count below)) in
+    let here : cost ≡ table_cost ms (block_name f.name i) = ap (λ o. unwrap_or o 0) (sym there ∙ ap (written_cost ms) is) in
+    let rest = map (table_cost ms) (names_from f (i + 1) count) in
+    let split : cost ∷ rest ≡ map (table_cost ms) (names_from f i count) = ap (λ n. n ∷ rest) here ∙ ap (map (table_cost ms)) (sym (names_left f i count below)) in
     ap (λ ns. ns ++ rest) pushed ∙ append_assoc row (cost ∷ []) rest ∙ ap (λ ns. row ++ ns) split ∙ left
 
 -- ---- one function
@@ -135,10 +135,10 @@ func_not_missing ms fs i f below is whole left =
     sym (ap (λ o. option_or o rest) whole) ∙ sym split ∙ left
 
 pub func_costs : (ms : Members) (fs : List Func) (i : ℕ) (f : Func) (row : List ℕ) (rows more all : List (List ℕ)) → i < length fs → f ≡ get_or fs i f
-    → row ≡ map (cost_of ms) (names_of f) → more ≡ rows ++ row ∷ []
-    → rows ++ map (λ (g : Func). map (cost_of ms) (names_of g)) (drop i fs) ≡ all → more ++ map (λ (g : Func). map (cost_of ms) (names_of g)) (drop (i + 1) fs) ≡ all
+    → row ≡ map (table_cost ms) (names_of f) → more ≡ rows ++ row ∷ []
+    → rows ++ map (λ (g : Func). map (table_cost ms) (names_of g)) (drop i fs) ≡ all → more ++ map (λ (g : Func). map (table_cost ms) (names_of g)) (drop (i + 1) fs) ≡ all
 func_costs ms fs i f row rows more all below is same pushed left =
-    let costs = λ (g : Func). map (cost_of ms) (names_of g) in
+    let costs = λ (g : Func). map (table_cost ms) (names_of g) in
     let rest = map costs (drop (i + 1) fs) in
     let split : row ∷ rest ≡ map costs (drop i fs) = ap (λ r. r ∷ rest) same ∙ ap (map costs) (sym (func_left fs i f below is)) in
     ap (λ rs. rs ++ rest) pushed ∙ append_assoc rows (row ∷ []) rest ∙ ap (λ rs. rows ++ rs) split ∙ left

@@ -6,10 +6,10 @@ use Rattle.std.specs.Str.{bytes_eq}
 use Rattle.std.proofs.lemmas.Slice.Eq.{bytes_eq-Decides}
 use Rattle.toml.specs.Data.{Members}
 use Rattle.c_tree.specs.declared.program.Func.{Func}
-use Rattle.cost_document.specs.Documents.{given}
+use Rattle.cost_document.specs.Documents.{written_cost}
 use Rattle.cost_table.specs.declared.fault.CostFault.{CostFault}
 use Rattle.cost_table.specs.declared.fault.CostFault.TheVariants.{Missing}
-use Rattle.cost_table.specs.Tables.{names, names_block, version_fault, key_fault, block_fault, number_fault, missing_fault, first_missing, first_fault, fault_of}
+use Rattle.cost_table.specs.Tables.{names, names_block, version_fault, key_fault, block_fault, number_fault, missing_fault, first_missing, first_fault, table_fault}
 use Rattle.cost_table.proofs.BlockCosts.{given_nothing, given_cost}
 
 none_first : (o : Option CostFault) (rest : List (Option CostFault)) → first_fault (o ∷ rest) ≡ None → (o ≡ None) × (first_fault rest ≡ None)
@@ -25,20 +25,20 @@ some_none a e = cc
 
 -- one name of the list, which is the block's or another
 one_name : (ms : Members) (name n : List ℕ) (ns : List (List ℕ)) → number_fault ms ≡ None → first_missing ms (n ∷ ns) ≡ None
-    → (first_missing ms ns ≡ None → list_any (bytes_eq name) ns ≡ true → IsSome (given ms name))
-    → (o : Option ℕ) → given ms n ≡ o → (same : Bool) → bytes_eq name n ≡ same → (same || list_any (bytes_eq name) ns) ≡ true → IsSome (given ms name)
+    → (first_missing ms ns ≡ None → list_any (bytes_eq name) ns ≡ true → IsSome (written_cost ms name))
+    → (o : Option ℕ) → written_cost ms n ≡ o → (same : Bool) → bytes_eq name n ≡ same → (same || list_any (bytes_eq name) ns) ≡ true → IsSome (written_cost ms name)
 one_name ms name n ns whole none more None is same equal there =
     absurd (some_none n (sym (given_nothing ms n ns whole is) ∙ none))
 one_name ms name n ns whole none more (Some cost) is true equal there =
-    ap is_some (ap (given ms) ((bytes_eq-Decides name n).0 equal) ∙ is)
+    ap is_some (ap (written_cost ms) ((bytes_eq-Decides name n).0 equal) ∙ is)
 one_name ms name n ns whole none more (Some cost) is false equal there = more (sym (given_cost ms n ns cost is) ∙ none) there
 
-each_name : (ms : Members) (name : List ℕ) (ns : List (List ℕ)) → number_fault ms ≡ None → first_missing ms ns ≡ None → list_any (bytes_eq name) ns ≡ true → IsSome (given ms name)
+each_name : (ms : Members) (name : List ℕ) (ns : List (List ℕ)) → number_fault ms ≡ None → first_missing ms ns ≡ None → list_any (bytes_eq name) ns ≡ true → IsSome (written_cost ms name)
 each_name ms name [] whole none there = absurd (cc)
 each_name ms name (n ∷ ns) whole none there =
-    one_name ms name n ns whole none (each_name ms name ns whole) (given ms n) refl (bytes_eq name n) refl there
+    one_name ms name n ns whole none (each_name ms name ns whole) (written_cost ms n) refl (bytes_eq name n) refl there
 
-pub costs_are_given : (fs : List Func) (ms : Members) (name : List ℕ) → fault_of fs ms ≡ None → names_block fs name ≡ true → IsSome (given ms name)
+pub costs_are_given : (fs : List Func) (ms : Members) (name : List ℕ) → table_fault fs ms ≡ None → names_block fs name ≡ true → IsSome (written_cost ms name)
 costs_are_given fs ms name none there =
     let last = missing_fault fs ms ∷ [] in
     let numbers = number_fault ms ∷ last in

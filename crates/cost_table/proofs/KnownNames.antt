@@ -58,8 +58,3 @@ any_more false true rest true = refl
 any_more false true true false = refl
 any_more false true false false = refl
 any_more false false rest has = refl
-
-pub range_left : (i n : ℕ) → i < n → range_with_len i (n - i) ≡ i ∷ range_with_len (i + 1) (n - (i + 1))
-range_left i n below =
-    let more : n - i ≡ suc (n - (i + 1)) = omega arith in
-    ap (range_with_len i) more

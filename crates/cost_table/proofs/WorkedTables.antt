@@ -3,9 +3,9 @@ use Rattle.std.proofs.Common.{◌≡◌, [], ◌∷◌, codes, Ok, Err, refl}
 use Rattle.std.specs.Str.{chars, is_utf8}
 use Rattle.std.specs.Fmt.{digits}
 use Rattle.toml.proofs.OnLiterals.{toml_on_literals}
-use Rattle.c_tree.specs.Blocks.{blocks}
+use Rattle.c_tree.specs.Meaning.Blocks.{blocks}
 use Rattle.cost_table.specs.declared.fault.CostFault.TheVariants.{NotToml, Version, Key, Block, Number, Missing}
-use Rattle.cost_table.specs.Tables.{verdict, plain}
+use Rattle.cost_table.specs.Tables.{verdict, costs_of_one}
 use Rattle.cost_table.specs.Worked.{two_blocks}
 
 pub no_toml : verdict two_blocks (codes "version = \n") ≡ Err NotToml
@@ -36,7 +36,7 @@ pub one_entry : verdict two_blocks (codes "version = 1\ndefault = 1\n[cost]\n\"m
 unfolding toml_on_literals is_utf8 chars digits blocks
 one_entry = refl
 
-pub plain_ones : plain two_blocks ≡ record { by_func = (1 ∷ 1 ∷ []) ∷ [] }
+pub plain_ones : costs_of_one two_blocks ≡ record { by_func = (1 ∷ 1 ∷ []) ∷ [] }
 unfolding blocks
 plain_ones = refl
 

@@ -13,7 +13,8 @@ Holds (member k e ms) key d = ((key ≡ k) × (d ≡ e)) ⊎ Holds ms key d
 -- the test is true at this key, and at none before it in byte order
 pub record IsFirstKey (test : List ℕ → Data → Bool) (ms : Members) (key : List ℕ) : Type 0 where
   pub passes : (d : Data) × Holds ms key d × (test key d ≡ true)
-  pub first : (other : List ℕ) (d : Data) → Holds ms other d → test other d ≡ true → is_lt (slice_cmp nat_cmp other key) ≡ false
+  pub first : (other : List ℕ) (d : Data) → Holds ms other d → test other d ≡ true
+      → is_lt (slice_cmp nat_cmp other key) ≡ false
 
 -- the test is false at each key
 abbrev pub NoKeyPasses : (List ℕ → Data → Bool) → Members → Type 0

@@ -1,15 +1,50 @@
 -- What a table of costs says of a program: its first fault, or the costs. This project's own.
-use Rattle.std.specs.Prelude.{◌≡◌, ◌++◌, codes, decimal, ℕ, Bool, false, map, List, [], ◌∷◌, not, if◌then◌else◌, Option, Some, None, is_some, is_none, option_map, unwrap_or, Result, Ok, Err, replicate}
+use Rattle.std.specs.Prelude.{
+  ◌≡◌,
+  ◌++◌,
+  codes,
+  decimal,
+  ℕ,
+  Bool,
+  false,
+  map,
+  List,
+  [],
+  ◌∷◌,
+  not,
+  if◌then◌else◌,
+  Option,
+  Some,
+  None,
+  is_some,
+  is_none,
+  option_map,
+  unwrap_or,
+  Result,
+  Ok,
+  Err,
+  replicate,
+}
 use Rattle.std.specs.List.{list_any, flat_map, range_with_len}
 use Rattle.std.specs.Str.{bytes_eq}
 use Rattle.toml.specs.Data.{Members, get_member}
 use Rattle.c_tree.specs.declared.program.Func.{Func}
 use Rattle.c_tree.specs.declared.program.Program.{Program}
 use Rattle.c_tree.specs.declared.program.Costs.{Costs}
-use Rattle.c_tree.specs.Blocks.{list_blocks}
+use Rattle.c_tree.specs.Meaning.Blocks.{list_blocks}
 use Rattle.cost_table.specs.declared.fault.CostFault.{CostFault}
 use Rattle.cost_table.specs.declared.fault.CostFault.TheVariants.{NotToml, Version, Key, Block, Number, Missing}
-use Rattle.cost_document.specs.Documents.{document, version, default, entries, is_stray, is_one, cost_in, given, first_key}
+use Rattle.cost_document.specs.Documents.{
+  document,
+  version,
+  default,
+  entries,
+  is_stray,
+  is_one,
+  cost_in,
+  written_cost,
+  first_key,
+}
 
 -- ---- the names of the blocks
 
@@ -69,27 +104,27 @@ first_fault [] = None
 first_fault (None ∷ rest) = first_fault rest
 first_fault (Some fault ∷ rest) = Some fault
 
-abbrev pub fault_of : List Func → Members → Option CostFault
-fault_of fs ms =
+abbrev pub table_fault : List Func → Members → Option CostFault
+table_fault fs ms =
     first_fault (version_fault ms ∷ key_fault ms ∷ block_fault fs ms ∷ number_fault ms ∷ missing_fault fs ms ∷ [])
 
 -- a block's cost. Where there is no fault, one is given
-abbrev pub cost_of : Members → List ℕ → ℕ
-cost_of ms name = unwrap_or (given ms name) 0
+abbrev pub table_cost : Members → List ℕ → ℕ
+table_cost ms name = unwrap_or (written_cost ms name) 0
 
 -- a list for each function in order, with the cost of each of its blocks
 abbrev pub costs_of : List Func → Members → Costs
-costs_of fs ms = record { by_func = map (λ (f : Func). map (cost_of ms) (names_of f)) fs }
+costs_of fs ms = record { by_func = map (λ (f : Func). map (table_cost ms) (names_of f)) fs }
 
 -- a document's fault, or its costs
-abbrev pub judged : Option CostFault → Costs → Result Costs CostFault
-judged None t = Ok t
-judged (Some fault) t = Err fault
+abbrev pub table_result : Option CostFault → Costs → Result Costs CostFault
+table_result None t = Ok t
+table_result (Some fault) t = Err fault
 
 -- what a document says of the functions, where the bytes spell one
 abbrev pub document_verdict : List Func → Option Members → Result Costs CostFault
 document_verdict fs None = Err NotToml
-document_verdict fs (Some ms) = judged (fault_of fs ms) (costs_of fs ms)
+document_verdict fs (Some ms) = table_result (table_fault fs ms) (costs_of fs ms)
 
 -- what the bytes say of the program
 abbrev pub verdict : Program → List ℕ → Result Costs CostFault
@@ -102,5 +137,5 @@ IsTable bytes p t = verdict p bytes ≡ Ok t
 -- ---- without a table
 
 -- 1 for every block
-abbrev pub plain : Program → Costs
-plain p = record { by_func = map (λ (f : Func). replicate (list_blocks f.body false) 1) p.funcs }
+abbrev pub costs_of_one : Program → Costs
+costs_of_one p = record { by_func = map (λ (f : Func). replicate (list_blocks f.body false) 1) p.funcs }

@@ -7,6 +7,13 @@ use Rattle.c_tree.specs.declared.program.Program.{Program}
 abbrev pub two_blocks : Program
 two_blocks = record {
   globals = [];
-  funcs = (record { name = codes "main"; result = None; params = 0; locals = []; body = Return None ∷ Return None ∷ [] }) ∷ [];
+  funcs = (record {
+    name = codes "main";
+    result = None;
+    params = 0;
+    locals = [];
+    body = Return None ∷ Return None
+        ∷ [];
+  }) ∷ [];
   entry = 0;
 }

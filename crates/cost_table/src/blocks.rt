@@ -1,7 +1,7 @@
 //! How many blocks a function has, and their names.
 
 ghost use Rattle.std.specs.Prelude.{◌≡◌, false, IfOk, IfSome};
-ghost use Rattle.c_tree.specs.Blocks.{list_blocks};
+ghost use Rattle.c_tree.specs.Meaning.Blocks.{list_blocks};
 ghost use Rattle.cost_table.specs.Tables.{block_name};
 
 use c_semantics::list_blocks;

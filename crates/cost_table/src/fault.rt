@@ -3,8 +3,8 @@
 use c_tree::{Name, NoMemory};
 use std::alloc::AllocError;
 
-/// Why a text is no table of costs for a program. Of several, the first of this list comes; `NoMemory` may come in place
-/// of any of them.
+/// Why a text is no table of costs for a program. Of several, the first of this list comes; `NoMemory` may come in
+/// place of any of them.
 #[derive(Debug, Drop)]
 pub enum CostFault {
     /// The text is no TOML, as `toml` reads it.
@@ -16,11 +16,11 @@ pub enum CostFault {
     Key { name: Name },
     /// This key of `cost` names no block of the program. It is the first in byte order.
     Block { name: Name },
-    /// `default`, or else the value of this key of `cost`, is no whole number from 0 to 4,294,967,295. It is the first in
-    /// byte order.
+    /// `default`, or else the value of this key of `cost`, is no whole number from 0 to 4,294,967,295. It is the first
+    /// in byte order.
     Number { name: Name },
-    /// There is no `default`, and this block has no entry. It is the first in block order: by the functions of the text,
-    /// then by number.
+    /// There is no `default`, and this block has no entry. It is the first in block order: by the functions of the
+    /// text, then by number.
     Missing { name: Name },
     /// Want of memory.
     NoMemory,

@@ -25,13 +25,15 @@ pub(crate) fn first_stray(document: &Table) -> Option<&str>
 
 /// The first key of `cost` that is not among those known to name a block.
 pub(crate) fn first_unknown<'a>(document: &'a Table, known: &BTreeSet<String>) -> Option<&'a str>
-    ensures { option_map (λ key. key.now) result ≡ first_key (λ key d. not (contains_text known.now key)) (entries (table_view document.now)) }
+    ensures { option_map (λ key. key.now) result ≡ first_key (λ key d. not (contains_text known.now key))
+        (entries (table_view document.now)) }
 {
     unknown_key(cost_table(document)?, known)
 }
 
 fn unknown_key<'a>(entries: &'a Table, known: &BTreeSet<String>) -> Option<&'a str>
-    ensures { option_map (λ key. key.now) result ≡ first_key (λ key d. not (contains_text known.now key)) (table_view entries.now) }
+    ensures { option_map (λ key. key.now) result ≡ first_key (λ key d. not (contains_text known.now key))
+        (table_view entries.now) }
 {
     for (key, _value) in entries {
         if !known.contains(key.as_str()) {
@@ -43,7 +45,8 @@ fn unknown_key<'a>(entries: &'a Table, known: &BTreeSet<String>) -> Option<&'a s
 
 /// The first key of `cost` whose value is no cost.
 pub(crate) fn first_without_cost(document: &Table) -> Option<&str>
-    ensures { option_map (λ key. key.now) result ≡ first_key (λ key d. is_none (cost_in d)) (entries (table_view document.now)) }
+    ensures { option_map (λ key. key.now) result ≡ first_key (λ key d. is_none (cost_in d))
+        (entries (table_view document.now)) }
 {
     key_without_cost(cost_table(document)?)
 }

@@ -23,7 +23,8 @@ pub(crate) fn known_names(
     document: &Table,
 ) -> Result<BTreeSet<String>, NoMemory>
     ensures { IfOk result (λ known. (key : List ℕ) →
-        contains_text known key ≡ (names_block funcs.now key && is_some (get_member key (entries (table_view document.now))))) }
+        contains_text known key
+        ≡ (names_block funcs.now key && is_some (get_member key (entries (table_view document.now))))) }
 {
     let mut known = BTreeSet::new(alloc);
     for func in funcs {
@@ -40,7 +41,8 @@ fn add_names(
     document: &Table,
 ) -> Result<(), NoMemory>
     ensures { OnOk result ((key : List ℕ) →
-        contains_text known.new key ≡ (contains_text known.old key || (list_any (bytes_eq key) (names_of func.now) && is_some (get_member key (entries (table_view document.now)))))) }
+        contains_text known.new key ≡ (contains_text known.old key || (list_any (bytes_eq key) (names_of func.now)
+        && is_some (get_member key (entries (table_view document.now)))))) }
 {
     let count = block_count(func).ok_or(NoMemory)?;
     for number in 0..count {
@@ -53,7 +55,8 @@ fn add_names(
 // Adds a name, where it has an entry.
 fn add_name(known: &mut BTreeSet<String>, document: &Table, name: Vec<u8>) -> Result<(), NoMemory>
     ensures { OnOk result ((key : List ℕ) →
-        contains_text known.new key ≡ (contains_text known.old key || (bytes_eq key name.items && is_some (get_member key (entries (table_view document.now)))))) }
+        contains_text known.new key ≡ (contains_text known.old key
+        || (bytes_eq key name.items && is_some (get_member key (entries (table_view document.now)))))) }
 {
     if entry(document, name.as_slice()).is_none() {
         return Ok(());

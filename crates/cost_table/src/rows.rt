@@ -2,7 +2,7 @@
 
 ghost use Rattle.std.specs.Prelude.{◌≡◌, ◌≢◌, Some, None, map, replicate, false, option_map, IfOk, IfErr, OnOk};
 ghost use Rattle.c_tree.specs.declared.program.Func.{Func};
-ghost use Rattle.c_tree.specs.Blocks.{list_blocks};
+ghost use Rattle.c_tree.specs.Meaning.Blocks.{list_blocks};
 ghost use Rattle.toml.specs.View.{table_view};
 ghost use Rattle.cost_table.specs.Tables as spec;
 
@@ -21,9 +21,11 @@ pub(crate) fn rows(
     document: &Table,
 ) -> Result<Items<Items<u32>>, CostFault>
     requires { spec.number_fault (table_view document.now) ≡ None }
-    ensures costs { IfOk result (λ rows. rows ≡ map (λ (f : Func). map (spec.cost_of (table_view document.now)) (spec.names_of f)) funcs.now) }
+    ensures costs { IfOk result (λ rows. rows ≡ map (λ (f : Func). map (spec.table_cost (table_view document.now))
+        (spec.names_of f)) funcs.now) }
     ensures whole { OnOk result (spec.missing_fault funcs.now (table_view document.now) ≡ None) }
-    ensures missing { IfErr result (λ e. e ≢ CostFault.NoMemory → spec.missing_fault funcs.now (table_view document.now) ≡ Some e) }
+    ensures missing { IfErr result (λ e. e ≢ CostFault.NoMemory → spec.missing_fault funcs.now
+        (table_view document.now) ≡ Some e) }
 {
     let mut rows = Items::new(alloc);
     for func in funcs {
@@ -35,9 +37,11 @@ pub(crate) fn rows(
 // The cost of each block of a function.
 fn row(alloc: Global, func: &Func, document: &Table) -> Result<Items<u32>, CostFault>
     requires { spec.number_fault (table_view document.now) ≡ None }
-    ensures costs { IfOk result (λ row. row ≡ map (spec.cost_of (table_view document.now)) (spec.names_of func.now)) }
+    ensures costs { IfOk result (λ row. row ≡ map (spec.table_cost (table_view document.now)) (spec.names_of func.now))
+        }
     ensures whole { OnOk result (spec.first_missing (table_view document.now) (spec.names_of func.now) ≡ None) }
-    ensures missing { IfErr result (λ e. e ≢ CostFault.NoMemory → option_map CostFault.Missing (spec.first_missing (table_view document.now) (spec.names_of func.now)) ≡ Some e) }
+    ensures missing { IfErr result (λ e. e ≢ CostFault.NoMemory → option_map CostFault.Missing
+        (spec.first_missing (table_view document.now) (spec.names_of func.now)) ≡ Some e) }
 {
     let count = block_count(func).ok_or(NoMemory)?;
     let mut row = Items::new(alloc);

@@ -1,10 +1,21 @@
 //! The costs of a program's blocks, by a table or plain.
 
 ghost use Rattle.std.specs.Prelude.{◌≡◌, ◌≢◌, Ok, Err, IfOk, IfErr, OnOk, OnErr, None, Some};
-ghost use Rattle.c_tree.specs.Claims.{AreCostsOf};
+ghost use Rattle.c_tree.specs.Meaning.Claims.{AreCostsOf};
 ghost use Rattle.toml.specs.View.{table_view};
 ghost use Rattle.cost_document.specs.Documents.{document};
-ghost use Rattle.cost_table.specs.Tables.{IsTable, verdict, plain, judged, fault_of, costs_of, version_fault, key_fault, block_fault, number_fault};
+ghost use Rattle.cost_table.specs.Tables.{
+  IsTable,
+  verdict,
+  costs_of_one,
+  table_result,
+  table_fault,
+  costs_of,
+  version_fault,
+  key_fault,
+  block_fault,
+  number_fault,
+};
 
 use crate::fault::CostFault;
 use crate::first::{first_no_number, first_stray, first_unknown};
@@ -35,7 +46,7 @@ pub fn costs(alloc: Global, program: &Program, text: &[u8]) -> Result<Costs, Cos
 
 /// 1 for every block of `program`. `NoMemory` is want of memory.
 pub fn plain_costs(alloc: Global, program: &Program) -> Result<Costs, NoMemory>
-    ensures plain { IfOk result (λ t. t ≡ plain program.now) }
+    ensures plain { IfOk result (λ t. t ≡ costs_of_one program.now) }
     ensures costs { IfOk result (AreCostsOf program.now) }
 {
     let by_func = plain_rows(alloc, program.funcs.as_slice())?;
@@ -65,8 +76,11 @@ pub(crate) fn document_costs(
     funcs: &[Func],
     document: &Table,
 ) -> Result<Costs, CostFault>
-    ensures table { IfOk result (λ t. judged (fault_of funcs.now (table_view document.now)) (costs_of funcs.now (table_view document.now)) ≡ Ok t) }
-    ensures fault { IfErr result (λ e. e ≢ CostFault.NoMemory → judged (fault_of funcs.now (table_view document.now)) (costs_of funcs.now (table_view document.now)) ≡ Err e) }
+    ensures table { IfOk result (λ t. table_result (table_fault funcs.now (table_view document.now))
+        (costs_of funcs.now (table_view document.now)) ≡ Ok t) }
+    ensures fault { IfErr result (λ e. e ≢ CostFault.NoMemory
+        → table_result (table_fault funcs.now (table_view document.now)) (costs_of funcs.now (table_view document.now))
+        ≡ Err e) }
 {
     if !has_version_one(document) {
         return Err(CostFault::Version);
@@ -93,7 +107,8 @@ fn check_keys(alloc: Global, document: &Table) -> Result<(), CostFault>
 // That each key of `cost` names a block.
 fn check_blocks(alloc: Global, funcs: &[Func], document: &Table) -> Result<(), CostFault>
     ensures whole { OnOk result (block_fault funcs.now (table_view document.now) ≡ None) }
-    ensures fault { IfErr result (λ e. e ≢ CostFault.NoMemory → block_fault funcs.now (table_view document.now) ≡ Some e) }
+    ensures fault { IfErr result (λ e. e ≢ CostFault.NoMemory → block_fault funcs.now (table_view document.now)
+        ≡ Some e) }
 {
     let known = known_names(alloc, funcs, document)?;
     let Some(key) = first_unknown(document, &known) else {

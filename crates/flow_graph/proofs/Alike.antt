@@ -11,12 +11,12 @@ use Rattle.c_tree.specs.declared.program.Func.{Func}
 use Rattle.c_tree.specs.declared.tree.Stmt.{Stmt, Row_of-Stmt, end_of-Stmt, more_of-Stmt, Held-Stmt-For-1, None', Some'}
 use Rattle.c_tree.specs.declared.tree.Stmt.TheVariants.{Empty, Scalar, Array, Assign, Call, Break, Continue, Return, If', While', Do', For', Group'}
 use Rattle.c_tree.specs.declared.tree.Stmt.TheBlock.{hidden-the_row-Stmt-0}
-use Rattle.c_tree.specs.Blocks.{is_simple, blocks, row_blocks, held_blocks}
-use Rattle.c_tree.specs.Statements.{block}
-use Rattle.flow_laws.specs.Sites.{Position, times_as_often, Content, Simple, Copy, LoopCopy, Jump, Give, Enter, Land, Missing, Site, Targets, asks, body_of, call_of, call_sites, flow, flush, head, held_flow, held_size, list_flow, loop_at, one, past, row_flow, row_size, size, with_next}
+use Rattle.c_tree.specs.Meaning.Blocks.{is_simple, blocks, row_blocks, held_blocks}
+use Rattle.c_tree.specs.Meaning.Statements.{block}
+use Rattle.flow_laws.specs.Sites.{Position, times_as_often, Content, Simple, Copy, LoopCopy, Jump, Give, Enter, Land, Missing, Site, Targets, asks, body_of, call_of, call_sites, flow, flush, head, held_flow, held_size, list_flow, loop_at, one_end_site, number_past, row_flow, row_size, site_count, with_next}
 use Rattle.flow_laws.specs.Graphs.{all_to, copy_of, copies}
-use Rattle.flow_laws.proofs.Copies.{row_flows}
-use Rattle.graph_lists.specs.Amounts.{kept}
+use Rattle.flow_laws.proofs.Runs.CopiesSound.{row_flows}
+use Rattle.graph_lists.specs.Amounts.{capped_amount}
 use Rattle.flow_graph.specs.Spots.{ends_of, test_ends, spot_of, spots}
 
 -- ---- scales
@@ -37,15 +37,15 @@ high_times m a (suc k) h =
 high_times_min : (m a k : ℕ) → m ≤ a → min (min a m * k) m ≡ min (a * k) m
 high_times_min m a k h = let e : min a m ≡ m = omega (arith, h) in ap (λ x. min (x * k) m) e ∙ high_times m a k h
 
-kept_product : (a k : ℕ) → kept (kept a * k) ≡ kept (a * k)
+kept_product : (a k : ℕ) → capped_amount (capped_amount a * k) ≡ capped_amount (a * k)
 kept_product a k = by_size (cases_lt a last)
   where
-    by_size : (a < last) ⊎ (last ≤ a) → kept (kept a * k) ≡ kept (a * k)
+    by_size : (a < last) ⊎ (last ≤ a) → capped_amount (capped_amount a * k) ≡ capped_amount (a * k)
     by_size (inl h) = low_times last a k (omega (arith, h))
     by_size (inr h) = high_times_min last a k h
 
-times_alike : (s s' k : ℕ) → kept s ≡ kept s' → kept (s * k) ≡ kept (s' * k)
-times_alike s s' k e = sym (kept_product s k) ∙ ap (λ x. kept (x * k)) e ∙ kept_product s' k
+times_alike : (s s' k : ℕ) → capped_amount s ≡ capped_amount s' → capped_amount (s * k) ≡ capped_amount (s' * k)
+times_alike s s' k e = sym (kept_product s k) ∙ ap (λ x. capped_amount (x * k)) e ∙ kept_product s' k
 
 -- ---- parts
 
@@ -55,40 +55,40 @@ at_scale w s = record { func = w.func; chain = w.chain; scale = s }
 join_alike : (p q p' q' : List Site) → spots p ≡ spots p' → spots q ≡ spots q' → spots (p ++ q) ≡ spots (p' ++ q')
 join_alike p q p' q' h k = map-append spot_of p q ∙ (λ i. h i ++ k i) ∙ sym (map-append spot_of p' q')
 
-one_alike : (w : Position) (s : ℕ) (c : Content) (b : Option BlockName) (t : ℕ) → kept w.scale ≡ kept s → spot_of (one w c b t) ≡ spot_of (one (at_scale w s) c b t)
+one_alike : (w : Position) (s : ℕ) (c : Content) (b : Option BlockName) (t : ℕ) → capped_amount w.scale ≡ capped_amount s → spot_of (one_end_site w c b t) ≡ spot_of (one_end_site (at_scale w s) c b t)
 one_alike w s c b t e = λ i. record { node = record { block = b; chain = w.chain; cap = e i }; call = call_of c; ends = ends_of c; yes = t; no = t }
 
-asks_alike : (w : Position) (s : ℕ) (l : Option LoopCopy) (e : Expr) (b : BlockName) (t u : ℕ) → kept w.scale ≡ kept s → spot_of (asks w l e b t u) ≡ spot_of (asks (at_scale w s) l e b t u)
+asks_alike : (w : Position) (s : ℕ) (l : Option LoopCopy) (e : Expr) (b : BlockName) (t u : ℕ) → capped_amount w.scale ≡ capped_amount s → spot_of (asks w l e b t u) ≡ spot_of (asks (at_scale w s) l e b t u)
 asks_alike w s l e b t u h = λ i. record { node = record { block = Some b; chain = w.chain; cap = h i }; call = None; ends = test_ends l; yes = t; no = u }
 
-flush_alike : (w : Position) (s : ℕ) (ss : List Stmt) (b : BlockName) (t : ℕ) → kept w.scale ≡ kept s → spots (flush w ss b t) ≡ spots (flush (at_scale w s) ss b t)
+flush_alike : (w : Position) (s : ℕ) (ss : List Stmt) (b : BlockName) (t : ℕ) → capped_amount w.scale ≡ capped_amount s → spots (flush w ss b t) ≡ spots (flush (at_scale w s) ss b t)
 flush_alike w s [] b t e = refl
 flush_alike w s (x ∷ ss) b t e = λ i. one_alike w s (Simple (x ∷ ss)) (Some b) t e i ∷ []
 
-row_alike_choose : (w : Position) (s : ℕ) (ss : List Stmt) (b : BlockName) (t : ℕ) (p q1 q2 p' q1' q2' : List Site) → kept w.scale ≡ kept s → spots p ≡ spots p' → spots q1 ≡ spots q1' → spots q2 ≡ spots q2' → (c : Bool) → spots (if c then p else flush w ss b t ++ (q1 ++ q2)) ≡ spots (if c then p' else flush (at_scale w s) ss b t ++ (q1' ++ q2'))
+row_alike_choose : (w : Position) (s : ℕ) (ss : List Stmt) (b : BlockName) (t : ℕ) (p q1 q2 p' q1' q2' : List Site) → capped_amount w.scale ≡ capped_amount s → spots p ≡ spots p' → spots q1 ≡ spots q1' → spots q2 ≡ spots q2' → (c : Bool) → spots (if c then p else flush w ss b t ++ (q1 ++ q2)) ≡ spots (if c then p' else flush (at_scale w s) ss b t ++ (q1' ++ q2'))
 row_alike_choose w s ss b t p q1 q2 p' q1' q2' e hp h1 h2 true = hp
 row_alike_choose w s ss b t p q1 q2 p' q1' q2' e hp h1 h2 false =
     join_alike (flush w ss b t) (q1 ++ q2) (flush (at_scale w s) ss b t) (q1' ++ q2') (flush_alike w s ss b t e) (join_alike q1 q2 q1' q2' h1 h2)
 
 abbrev pub IsAlike : Copy → Type 0
-IsAlike c = (h : List BlockName) (s s' n l : ℕ) → kept s ≡ kept s' → spots (c.sites h s n l) ≡ spots (c.sites h s' n l)
+IsAlike c = (h : List BlockName) (s s' n l : ℕ) → capped_amount s ≡ capped_amount s' → spots (c.sites h s n l) ≡ spots (c.sites h s' n l)
 
 abbrev pub HaveAlike : List Copy → Type 0
 HaveAlike cs = (g : ℕ) (c : Copy) → slice_get cs g ≡ Some c → IsAlike c
 
-call_alike : (w : Position) (s : ℕ) (o : Option Copy) (t : Target) (es : List Expr) (b : BlockName) (n next : ℕ) → kept w.scale ≡ kept s → ((c : Copy) → o ≡ Some c → IsAlike c) → spots (call_sites w o t es b n next) ≡ spots (call_sites (at_scale w s) o t es b n next)
+call_alike : (w : Position) (s : ℕ) (o : Option Copy) (t : Target) (es : List Expr) (b : BlockName) (n next : ℕ) → capped_amount w.scale ≡ capped_amount s → ((c : Copy) → o ≡ Some c → IsAlike c) → spots (call_sites w o t es b n next) ≡ spots (call_sites (at_scale w s) o t es b n next)
 call_alike w s None t es b n next e h = λ i. one_alike w s Missing (Some b) (n + 1) e i ∷ (one_alike w s Missing None next e i ∷ [])
 call_alike w s (Some c) t es b n next e h =
     let landing = n + 1 + c.size in
     let chain = w.chain ++ b ∷ [] in
-    let inner = join_alike (c.sites chain w.scale (n + 1) landing) (one w (Land t c.result b) None next ∷ []) (c.sites chain s (n + 1) landing) (one (at_scale w s) (Land t c.result b) None next ∷ []) (h c refl chain w.scale s (n + 1) landing e) (λ i. one_alike w s (Land t c.result b) None next e i ∷ []) in
+    let inner = join_alike (c.sites chain w.scale (n + 1) landing) (one_end_site w (Land t c.result b) None next ∷ []) (c.sites chain s (n + 1) landing) (one_end_site (at_scale w s) (Land t c.result b) None next ∷ []) (h c refl chain w.scale s (n + 1) landing e) (λ i. one_alike w s (Land t c.result b) None next e i ∷ []) in
     λ i. one_alike w s (Enter t c.locals es) (Some b) (head c.size (n + 1) landing) e i ∷ inner i
 
 module _ (cs : List Copy) (alike : HaveAlike cs) where
   mutual
     unfolding flow row_flow held_flow
 
-    pub flow_alike : (w : Position) (s : ℕ) (st : Stmt) (b n : ℕ) (k : Targets) → kept w.scale ≡ kept s → spots (flow cs w st b n k) ≡ spots (flow cs (at_scale w s) st b n k)
+    pub flow_alike : (w : Position) (s : ℕ) (st : Stmt) (b n : ℕ) (k : Targets) → capped_amount w.scale ≡ capped_amount s → spots (flow cs w st b n k) ≡ spots (flow cs (at_scale w s) st b n k)
     flow_alike w s Empty b n k same = refl
     flow_alike w s (Scalar l e) b n k same = refl
     flow_alike w s (Array l es) b n k same = refl
@@ -126,19 +126,19 @@ module _ (cs : List Copy) (alike : HaveAlike cs) where
         join_alike (held_flow cs w i b n (with_next k c)) _ (held_flow cs (at_scale w s) i b n (with_next k c)) _ (held_alike w s i b n (with_next k c) same) (λ z. asks_alike (times_as_often w (l + 1)) (s * (l + 1)) (Some (loop_at c (c + 1 + r + m) c l false)) e (block w.func bc) (head m (c + 1 + r) again) k.next (times_alike w.scale s (l + 1) same) z ∷ rest z)
     flow_alike w s (Group' a x) b n k same = row_alike w s x b n [] k same
 
-    pub row_alike : {m : _} (w : Position) (s : ℕ) (x : Row_of-Stmt m) (b n : ℕ) (ss : List Stmt) (k : Targets) → kept w.scale ≡ kept s → spots (row_flow cs w x b n ss k) ≡ spots (row_flow cs (at_scale w s) x b n ss k)
+    pub row_alike : {m : _} (w : Position) (s : ℕ) (x : Row_of-Stmt m) (b n : ℕ) (ss : List Stmt) (k : Targets) → capped_amount w.scale ≡ capped_amount s → spots (row_flow cs w x b n ss k) ≡ spots (row_flow cs (at_scale w s) x b n ss k)
     row_alike w s end_of-Stmt b n ss k same = flush_alike w s ss (block w.func b) k.next same
     row_alike w s (more_of-Stmt st rest) b n ss k same =
-        let n1 = past ss n in
-        let n2 = n1 + size cs st false in
+        let n1 = number_past ss n in
+        let n2 = n1 + site_count cs st false in
         let next = head (row_size cs rest false) n2 k.next in
-        row_alike_choose w s ss (block w.func b) (head (size cs st false) n1 next) _ _ _ _ _ _ same (row_alike w s rest b n (ss ++ st ∷ []) k same) (flow_alike w s st (past ss b) n1 (with_next k next) same) (row_alike w s rest (past ss b + blocks st false) n2 [] k same) (is_simple st)
+        row_alike_choose w s ss (block w.func b) (head (site_count cs st false) n1 next) _ _ _ _ _ _ same (row_alike w s rest b n (ss ++ st ∷ []) k same) (flow_alike w s st (number_past ss b) n1 (with_next k next) same) (row_alike w s rest (number_past ss b + blocks st false) n2 [] k same) (is_simple st)
 
-    pub held_alike : (w : Position) (s : ℕ) (x : Held-Stmt-For-1) (b n : ℕ) (k : Targets) → kept w.scale ≡ kept s → spots (held_flow cs w x b n k) ≡ spots (held_flow cs (at_scale w s) x b n k)
+    pub held_alike : (w : Position) (s : ℕ) (x : Held-Stmt-For-1) (b n : ℕ) (k : Targets) → capped_amount w.scale ≡ capped_amount s → spots (held_flow cs w x b n k) ≡ spots (held_flow cs (at_scale w s) x b n k)
     held_alike w s None' b n k same = refl
     held_alike w s (Some' a x) b n k same = row_alike w s x b n [] k same
 
-  pub list_alike : (w : Position) (s : ℕ) (xs : List Stmt) (b n : ℕ) (k : Targets) → kept w.scale ≡ kept s → spots (list_flow cs w xs b n [] k) ≡ spots (list_flow cs (at_scale w s) xs b n [] k)
+  pub list_alike : (w : Position) (s : ℕ) (xs : List Stmt) (b n : ℕ) (k : Targets) → capped_amount w.scale ≡ capped_amount s → spots (list_flow cs w xs b n [] k) ≡ spots (list_flow cs (at_scale w s) xs b n [] k)
   list_alike w s xs b n k same =
       ap spots (sym (row_flows cs w xs b n [] k)) ∙ row_alike w s (hidden-the_row-Stmt-0 xs) b n [] k same ∙ ap spots (row_flows cs (at_scale w s) xs b n [] k)
 

@@ -3,17 +3,17 @@ use Rattle.std.proofs.Common.{◌≤◌, Bool, false, List, [], ◌∷◌, Optio
 use Rattle.std.specs.Prelude.{slice_get}
 use Rattle.c_tree.specs.declared.tree.Stmt.{Stmt, Row_of-Stmt, end_of-Stmt, more_of-Stmt, Held-Stmt-For-1, None', Some'}
 use Rattle.c_tree.specs.declared.tree.Stmt.TheVariants.{Empty, Scalar, Array, Assign, Call, Break, Continue, Return, If', While', Do', For', Group'}
-use Rattle.c_tree.specs.Blocks.{is_simple, blocks, row_blocks, held_blocks, list_blocks}
-use Rattle.flow_laws.specs.Sites.{Copy, call_size, size, row_size, held_size, list_size}
+use Rattle.c_tree.specs.Meaning.Blocks.{is_simple, blocks, row_blocks, held_blocks, list_blocks}
+use Rattle.flow_laws.specs.Sites.{Copy, call_size, site_count, row_size, held_size, list_size}
 
 call_blocks : (o : Option Copy) → 1 ≤ call_size o
 call_blocks None = omega arith
 call_blocks (Some c) = omega arith
 
 mutual
-  unfolding size row_size held_size blocks row_blocks held_blocks
+  unfolding site_count row_size held_size blocks row_blocks held_blocks
 
-  pub blocks_le : (cs : List Copy) (st : Stmt) (run : Bool) → blocks st run ≤ size cs st run
+  pub blocks_le : (cs : List Copy) (st : Stmt) (run : Bool) → blocks st run ≤ site_count cs st run
   blocks_le cs Empty run = omega arith
   blocks_le cs (Scalar l e) run = omega arith
   blocks_le cs (Array l es) run = omega arith

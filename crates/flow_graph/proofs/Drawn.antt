@@ -5,12 +5,12 @@ use Rattle.c_tree.specs.declared.program.BlockName.{BlockName}
 use Rattle.flow_laws.specs.declared.graph.Edge.{Edge}
 use Rattle.flow_laws.specs.Sites.{Content, Entry, Exit, Simple, Test, Jump, Give, Enter, Missing, Land, Site}
 use Rattle.flow_laws.specs.Graphs.{edges, edges_from, outs, loops, loops_at, loop_copies, loop_of, positions, first_out}
-use Rattle.flow_laws.proofs.Turned.{AllTested, IsTested}
+use Rattle.flow_laws.proofs.Loops.LoopConditions.{AllTested, IsTested}
 use Rattle.flow_graph.proofs.Tame.{BlockWithin, BlocksWithin}
 use Rattle.std.proofs.Math.Seq.{take-append_seam}
 use Rattle.std.proofs.lemmas.List.{map-append}
 use Rattle.std.proofs.lemmas.Bool.{lt-ltb, ltb-true, ltb-false, le-ltb}
-use Rattle.graph_lists.specs.Amounts.{kept}
+use Rattle.graph_lists.specs.Amounts.{capped_amount}
 use Rattle.flow_graph.specs.Spots.{spot_of, spots, ends_of, turn_of}
 use Rattle.graph_lists.specs.Joints.{outs_of, spot_outs, spot_edges, turn_enters, spot_loops, ends_loops, block_above, spot_above}
 use Rattle.graph_lists.proofs.Steps.{outs_long}
@@ -92,13 +92,13 @@ below_kept : (m c limit : ℕ) (b : Bool) → limit < m → nat_lt limit c ≡ b
 below_kept m c limit true h e = let l = ltb-true limit c e in lt-ltb limit (min c m) (omega (arith, l, h))
 below_kept m c limit false h e = let l = ltb-false limit c e in le-ltb limit (min c m) (omega (arith, l, h))
 
-node_above : (b : Option BlockName) (c : ℕ) (later : Option BlockName) → block_above (2 ^ 40) b (kept c) later ≡ block_above (2 ^ 40) b c later
+node_above : (b : Option BlockName) (c : ℕ) (later : Option BlockName) → block_above (2 ^ 40) b (capped_amount c) later ≡ block_above (2 ^ 40) b c later
 node_above None c later = refl
 node_above (Some b) c later = ap (λ x. if x then Some b else later) (below_kept (2 ^ 64 - 1) c (2 ^ 40) (nat_lt (2 ^ 40) c) (omega arith) refl)
 
 pub above_is : (g : List Site) → spot_above (2 ^ 40) (spots g) ≡ first_above (2 ^ 40) g
 above_is [] = refl
-above_is (s ∷ g) = ap (block_above (2 ^ 40) s.node.block (kept s.node.cap)) (above_is g) ∙ node_above s.node.block s.node.cap (first_above (2 ^ 40) g)
+above_is (s ∷ g) = ap (block_above (2 ^ 40) s.node.block (capped_amount s.node.cap)) (above_is g) ∙ node_above s.node.block s.node.cap (first_above (2 ^ 40) g)
 
 block_within : (b : Option BlockName) (c : ℕ) (later : Option BlockName) → block_above (2 ^ 40) b c later ≡ None → BlockWithin (2 ^ 40) b c × (later ≡ None)
 block_within None c later e = (tt, e)

@@ -6,7 +6,7 @@ use Rattle.flow_laws.specs.declared.graph.Way.TheVariants.{Next, True, False}
 use Rattle.flow_laws.specs.declared.graph.Edge.{Edge}
 use Rattle.flow_laws.specs.Sites.{Content, Entry, Exit, Simple, Test, Jump, Give, Enter, Missing, Land, Site}
 use Rattle.flow_laws.specs.Graphs.{edges, edges_from, outs, first_out, leaves, loops_at, loop_copies}
-use Rattle.flow_laws.proofs.Turned.{AllTested, IsTested}
+use Rattle.flow_laws.proofs.Loops.LoopConditions.{AllTested, IsTested}
 use Rattle.graph_lists.specs.declared.onward.Outs.{Outs}
 use Rattle.graph_lists.specs.declared.onward.Outs.TheVariants.{Nowhere}
 use Rattle.flow_graph.specs.Spots.{spot_of, spots, ends_of}
@@ -15,6 +15,7 @@ use Rattle.graph_lists.specs.Leaving.{IsOutBy, Leave, IsAmong, AreOuts, outs_fro
 use Rattle.graph_lists.specs.Spans.{span_of, ends_spans, spot_spans}
 use Rattle.graph_lists.proofs.Steps.{outs_long}
 use Rattle.flow_graph.proofs.Drawn.{outs_are}
+use Rattle.plain_laws.proofs.Lists.{get-front, get-second}
 
 -- ---- parts of lists
 
@@ -36,17 +37,6 @@ parted [] ys j e h = inr (record { rest = j; number = omega arith; is = h })
 parted (x ∷ xs) ys zero e h = inl h
 parted (x ∷ xs) ys (suc j) e h = one_later x xs ys j e (parted xs ys j e h)
 
-in_first : {A : Type 0} (xs ys : List A) (j : ℕ) (e : A) → slice_get xs j ≡ Some e → slice_get (xs ++ ys) j ≡ Some e
-in_first [] ys j e h = absurd (cc)
-in_first (x ∷ xs) ys zero e h = h
-in_first (x ∷ xs) ys (suc j) e h = in_first xs ys j e h
-
-in_second : {A : Type 0} (xs ys : List A) (j : ℕ) (e : A) → slice_get ys j ≡ Some e → slice_get (xs ++ ys) (length xs + j) ≡ Some e
-in_second [] ys j e h = let z : 0 + j ≡ j = omega arith in ap (slice_get ys) z ∙ h
-in_second (x ∷ xs) ys j e h =
-    let z : length (x ∷ xs) + j ≡ suc (length xs + j) = omega arith in
-    ap (slice_get ((x ∷ xs) ++ ys)) z ∙ in_second xs ys j e h
-
 -- ---- the edges of a node stand at its first number
 
 at_number : (g : List Site) (n m k : ℕ) (s : Site) (e : Edge) → slice_get g m ≡ Some s → slice_get (outs (n + m) s s.content) k ≡ Some e → slice_get (edges_from n g) (length (edges_from n (take m g)) + k) ≡ Some e
@@ -56,14 +46,14 @@ at_number (y ∷ g) n zero k s e h is =
     let z : n + 0 ≡ n = omega arith in
     let none : 0 + k ≡ k = omega arith in
     let here : slice_get (outs n y y.content) k ≡ Some e = subst (λ (t : Site). slice_get (outs n t t.content) k ≡ Some e) p (subst (λ q. slice_get (outs q s s.content) k ≡ Some e) z is) in
-    ap (slice_get (outs n y y.content ++ edges_from (n + 1) g)) none ∙ in_first (outs n y y.content) (edges_from (n + 1) g) k e here
+    ap (slice_get (outs n y y.content ++ edges_from (n + 1) g)) none ∙ get-front (outs n y y.content) (edges_from (n + 1) g) k e here
 at_number (y ∷ g) n (suc m) k s e h is =
     let z : n + suc m ≡ n + 1 + m = omega arith in
     let o = outs n y y.content in
     let rest = edges_from (n + 1) (take m g) in
     let later : slice_get (edges_from (n + 1) g) (length rest + k) ≡ Some e = at_number g (n + 1) m k s e h (subst (λ q. slice_get (outs q s s.content) k ≡ Some e) z is) in
     let place : length (o ++ rest) + k ≡ length o + (length rest + k) = omega (arith, length-append o rest) in
-    ap (slice_get (o ++ edges_from (n + 1) g)) place ∙ in_second o (edges_from (n + 1) g) (length rest + k) e later
+    ap (slice_get (o ++ edges_from (n + 1) g)) place ∙ get-second o (edges_from (n + 1) g) (length rest + k) e later
 
 pub out_at : (g : List Site) (n k : ℕ) (s : Site) (e : Edge) → slice_get g n ≡ Some s → slice_get (outs n s s.content) k ≡ Some e → slice_get (edges g) (first_out g n + k) ≡ Some e
 unfolding edges

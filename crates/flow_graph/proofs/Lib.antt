@@ -3,14 +3,8 @@ pub mod BlockSizes
 pub mod Tame
 pub mod Alike
 pub mod Kept
-pub mod Laid
-pub mod Copied
-pub mod Along
-pub mod Called
-pub mod Parts
-pub mod Unfolded
+pub mod Layouts
 pub mod Drawn
 pub mod Leaving
-pub mod Landed
 pub mod Measured
 pub mod Worked

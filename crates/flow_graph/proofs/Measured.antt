@@ -7,11 +7,11 @@ use Rattle.c_tree.specs.declared.program.Program.{Program}
 use Rattle.c_tree.specs.declared.program.Func.{Func}
 use Rattle.flow_laws.specs.Sites.{Content, Entry, Exit, Simple, Test, Jump, Give, Enter, Missing, Land, Copy, Site}
 use Rattle.flow_laws.specs.Graphs.{copies, copy_of, edges, edges_from, graph, nodes, outs, sites_of}
-use Rattle.flow_laws.proofs.Turned.{copy_sizes}
+use Rattle.flow_laws.proofs.Loops.LoopConditions.{copy_sizes}
 use Rattle.graph_lists.specs.declared.sizes.Weights.{Weights}
 use Rattle.flow_graph.specs.declared.fault.PlanFault.TheVariants.{Blocks, Edges, Cap}
-use Rattle.graph_lists.specs.Amounts.{kept, amounts}
-use Rattle.flow_graph.specs.Limits.{block_copies, copies_of, first_above, refusal}
+use Rattle.graph_lists.specs.Amounts.{capped_amount, amounts}
+use Rattle.flow_graph.specs.Limits.{block_copies, copies_of, first_above, size_fault}
 use Rattle.flow_graph.specs.Layout.{HasRoom, copies_above}
 use Rattle.flow_graph.specs.Spots.{spots, spot_of}
 use Rattle.flow_graph.specs.Plans.{cost_of_spot, cost_of_source}
@@ -25,7 +25,7 @@ use Rattle.graph_lists.specs.Joints.{spot_above}
 use Rattle.std.proofs.lemmas.List.{length-map}
 use Rattle.graph_lists.proofs.Sums.{amounts_length}
 use Rattle.flow_graph.proofs.Totals.{Weighs, Counts, total, all_count}
-use Rattle.flow_graph.proofs.Unfolded.{got, copy_is}
+use Rattle.flow_graph.proofs.Layouts.Unfolded.{got, copy_is}
 
 abbrev pub copies_weights : Weights
 copies_weights = record { test = 1; landing = 0 }
@@ -91,7 +91,7 @@ long_total (s ∷ g) = omega (arith, one_end s.content, long_total g)
 -- ---- the entry function
 
 -- what a measure says of the copy of the entry function
-counted_at : (f : Site → ℕ) (o : Option Copy) (c : Copy) (d : Option ℕ) (x : ℕ) → Counts f o d → o ≡ Some c → d ≡ Some x → kept (total f (c.sites [] 1 2 1)) ≡ x
+counted_at : (f : Site → ℕ) (o : Option Copy) (c : Copy) (d : Option ℕ) (x : ℕ) → Counts f o d → o ≡ Some c → d ≡ Some x → capped_amount (total f (c.sites [] 1 2 1)) ≡ x
 counted_at f o c d x h e k =
     let r : Counts f (Some c) (Some x) = subst (λ y. Counts f (Some c) y) k (subst (λ y. Counts f y d) e h) in
     r [] 1 2 1
@@ -123,16 +123,16 @@ front_blocks c = zero_zero (block_copies (c.sites [] 1 2 1))
     zero_zero : (n : ℕ) → 0 + (0 + n) ≡ n
     zero_zero n = omega arith
 
-pub copies_kept : (p : Program) (n : ℕ) → Entered p → slice_get (amounts copies_weights [] p.funcs) p.entry ≡ Some n → n ≡ kept (block_copies (graph p))
+pub copies_kept : (p : Program) (n : ℕ) → Entered p → slice_get (amounts copies_weights [] p.funcs) p.entry ≡ Some n → n ≡ capped_amount (block_copies (graph p))
 copies_kept p n h e =
     let c = h.copy in
     let k = counted_at block_of (slice_get (copies [] p.funcs) p.entry) c (slice_get (amounts copies_weights [] p.funcs) p.entry) n (all_count block_of copies_weights weighs_blocks p.funcs p.entry) h.is e in
-    sym k ∙ ap kept (sym (blocks_total (c.sites [] 1 2 1)) ∙ sym (front_blocks c)) ∙ ap (λ g. kept (block_copies g)) (sym (graph_is p c h.is))
+    sym k ∙ ap capped_amount (sym (blocks_total (c.sites [] 1 2 1)) ∙ sym (front_blocks c)) ∙ ap (λ g. capped_amount (block_copies g)) (sym (graph_is p c h.is))
 
 less_one : (m t n l : ℕ) → min t m ≡ n → l ≡ 1 + t → n ≡ min (l - 1) m
 less_one m t n l h e = omega (arith, h, e)
 
-pub edges_kept : (p : Program) (n : ℕ) → Entered p → slice_get (amounts edges_weights [] p.funcs) p.entry ≡ Some n → n ≡ kept (length (edges (graph p)) - 1)
+pub edges_kept : (p : Program) (n : ℕ) → Entered p → slice_get (amounts edges_weights [] p.funcs) p.entry ≡ Some n → n ≡ capped_amount (length (edges (graph p)) - 1)
 edges_kept p n h e =
     let c = h.copy in
     let k = counted_at outs_at (slice_get (copies [] p.funcs) p.entry) c (slice_get (amounts edges_weights [] p.funcs) p.entry) n (all_count outs_at edges_weights weighs_outs p.funcs p.entry) h.is e in
@@ -140,12 +140,12 @@ edges_kept p n h e =
 
 -- ---- room for numbers
 
-some_amount : (f : Site → ℕ) (o : Option Copy) (c : Copy) (d : Option ℕ) → Counts f o d → o ≡ Some c → d ≡ Some (kept (total f (c.sites [] 1 2 1)))
+some_amount : (f : Site → ℕ) (o : Option Copy) (c : Copy) (d : Option ℕ) → Counts f o d → o ≡ Some c → d ≡ Some (capped_amount (total f (c.sites [] 1 2 1)))
 some_amount f None c d h e = absurd (cc)
 some_amount f (Some x) c None h e = absurd h
 some_amount f (Some x) c (Some y) h e =
     let p : x ≡ c = cc in
-    sym (ap Some (subst (λ z. kept (total f (z.sites [] 1 2 1)) ≡ y) p (h [] 1 2 1)))
+    sym (ap Some (subst (λ z. capped_amount (total f (z.sites [] 1 2 1)) ≡ y) p (h [] 1 2 1)))
 
 fits : (m n t u l : ℕ) → min t m ≡ min u m → l ≡ 1 + u → l ≤ 2048 → n ≤ t → 2048 ≤ m → 2 + n < 2 ^ 32
 fits m n t u l e h few le big = omega (arith, e, h, few, le, big)
@@ -158,7 +158,7 @@ entry_room p h few =
     let body = c.sites [] 1 2 1 in
     let a = some_amount outs_at o c d (all_count outs_at edges_weights weighs_outs p.funcs p.entry) h.is in
     let b = some_amount (λ s. ends_at s.content) o c d (all_count (λ s. ends_at s.content) edges_weights weighs_ends p.funcs p.entry) h.is in
-    let same : kept (total (λ s. ends_at s.content) body) ≡ kept (total outs_at body) = (let e : Some (kept (total (λ s. ends_at s.content) body)) ≡ Some (kept (total outs_at body)) = sym b ∙ a in cc) in
+    let same : capped_amount (total (λ s. ends_at s.content) body) ≡ capped_amount (total outs_at body) = (let e : Some (capped_amount (total (λ s. ends_at s.content) body)) ≡ Some (capped_amount (total outs_at body)) = sym b ∙ a in cc) in
     let size = copy_sizes p.funcs p.entry c h.is [] 1 2 1 in
     let l = ap (λ g. length (edges g)) (graph_is p c h.is) ∙ front_edges c in
     let le : c.size ≤ total (λ s. ends_at s.content) body = omega (arith, long_total body, size) in
@@ -172,33 +172,33 @@ more m a k n e h = omega (arith, e, h)
 fewer : (m a k n : ℕ) → n ≡ min a m → n ≤ k → k < m → (n ≡ a) × (a ≤ k)
 fewer m a k n e h l = (omega (arith, e, h, l), omega (arith, e, h, l))
 
-pub too_many : (g : List Site) (n : ℕ) → n ≡ kept (block_copies g) → 1024 < n → refusal g ≡ Some Blocks
-unfolding refusal
+pub too_many : (g : List Site) (n : ℕ) → n ≡ capped_amount (block_copies g) → 1024 < n → size_fault g ≡ Some Blocks
+unfolding size_fault
 too_many g n e h =
     ap (λ b. if b then Some Blocks else (if nat_lt 2048 (length (edges g)) then Some Edges else option_map (λ b. Cap b) (first_above (2 ^ 40) g))) (lt-ltb 1024 (block_copies g) (more (2 ^ 64 - 1) (block_copies g) 1024 n e h))
 
-pub few_copies : (g : List Site) (n : ℕ) → n ≡ kept (block_copies g) → n ≤ 1024 → (n ≡ block_copies g) × (block_copies g ≤ 1024)
+pub few_copies : (g : List Site) (n : ℕ) → n ≡ capped_amount (block_copies g) → n ≤ 1024 → (n ≡ block_copies g) × (block_copies g ≤ 1024)
 few_copies g n e h = fewer (2 ^ 64 - 1) (block_copies g) 1024 n e h (omega arith)
 
-judged_at : (g : List Site) → block_copies g ≤ 1024 → refusal g ≡ (if nat_lt 2048 (length (edges g)) then Some Edges else option_map (λ b. Cap b) (first_above (2 ^ 40) g))
-unfolding refusal
+judged_at : (g : List Site) → block_copies g ≤ 1024 → size_fault g ≡ (if nat_lt 2048 (length (edges g)) then Some Edges else option_map (λ b. Cap b) (first_above (2 ^ 40) g))
+unfolding size_fault
 judged_at g h =
     ap (λ b. if b then Some Blocks else (if nat_lt 2048 (length (edges g)) then Some Edges else option_map (λ b. Cap b) (first_above (2 ^ 40) g))) (le-ltb 1024 (block_copies g) h)
 
 less : (m l n : ℕ) → n ≡ min (l - 1) m → 2047 < n → 2048 < l
 less m l n e h = omega (arith, e, h)
 
-pub too_many_edges : (g : List Site) (n : ℕ) → block_copies g ≤ 1024 → n ≡ kept (length (edges g) - 1) → 2047 < n → refusal g ≡ Some Edges
+pub too_many_edges : (g : List Site) (n : ℕ) → block_copies g ≤ 1024 → n ≡ capped_amount (length (edges g) - 1) → 2047 < n → size_fault g ≡ Some Edges
 too_many_edges g n c e h =
     judged_at g c ∙ ap (λ b. if b then Some Edges else option_map (λ b. Cap b) (first_above (2 ^ 40) g)) (lt-ltb 2048 (length (edges g)) (less (2 ^ 64 - 1) (length (edges g)) n e h))
 
 not_less : (m l n : ℕ) → n ≡ min (l - 1) m → n ≤ 2047 → 2047 < m → l ≤ 2048
 not_less m l n e h k = omega (arith, e, h, k)
 
-pub few_edges : (g : List Site) (n : ℕ) → n ≡ kept (length (edges g) - 1) → n ≤ 2047 → length (edges g) ≤ 2048
+pub few_edges : (g : List Site) (n : ℕ) → n ≡ capped_amount (length (edges g) - 1) → n ≤ 2047 → length (edges g) ≤ 2048
 few_edges g n e h = not_less (2 ^ 64 - 1) (length (edges g)) n e h (omega arith)
 
-pub by_caps : (g : List Site) → block_copies g ≤ 1024 → length (edges g) ≤ 2048 → refusal g ≡ option_map (λ b. Cap b) (first_above (2 ^ 40) g)
+pub by_caps : (g : List Site) → block_copies g ≤ 1024 → length (edges g) ≤ 2048 → size_fault g ≡ option_map (λ b. Cap b) (first_above (2 ^ 40) g)
 by_caps g c h =
     judged_at g c ∙ ap (λ b. if b then Some Edges else option_map (λ b. Cap b) (first_above (2 ^ 40) g)) (le-ltb 2048 (length (edges g)) h)
 
@@ -219,8 +219,8 @@ limits_of g false true hx hy e = absurd (cc)
 limits_of g false false hx hy e =
     record { copies = ltb-false 1024 (block_copies g) hx; edges = ltb-false 2048 (length (edges g)) hy; caps = cap_or_none (first_above (2 ^ 40) g) e }
 
-pub limits : (g : List Site) → refusal g ≡ None → Limits g
-unfolding refusal
+pub limits : (g : List Site) → size_fault g ≡ None → Limits g
+unfolding size_fault
 limits g e = limits_of g (nat_lt 1024 (block_copies g)) (nat_lt 2048 (length (edges g))) refl refl e
 
 pub spots_are : (p : Program) (fs : List Func) → fs ≡ p.funcs → spots (sites_of (slice_get (copies [] fs) p.entry)) ≡ spots (graph p)
@@ -280,6 +280,6 @@ pub source_cost : (t : Costs) (g : List Site) (o : Option Edge) → cost_of_sour
 source_cost t g None = refl
 source_cost t g (Some e) = cost_at t g e.from
 
-pub cap_is : (p : Program) (laid : List Spot) (o : Option BlockName) → laid ≡ spots (graph p) → block_copies (graph p) ≤ 1024 → length (edges (graph p)) ≤ 2048 → o ≡ spot_above (2 ^ 40) laid → refusal (graph p) ≡ option_map (λ b. Cap b) o
+pub cap_is : (p : Program) (laid : List Spot) (o : Option BlockName) → laid ≡ spots (graph p) → block_copies (graph p) ≤ 1024 → length (edges (graph p)) ≤ 2048 → o ≡ spot_above (2 ^ 40) laid → size_fault (graph p) ≡ option_map (λ b. Cap b) o
 cap_is p laid o h few fewer e =
     by_caps (graph p) few fewer ∙ ap (option_map (λ b. Cap b)) (sym (above_is (graph p)) ∙ ap (spot_above (2 ^ 40)) (sym h) ∙ sym e)

@@ -8,11 +8,11 @@ use Rattle.c_tree.specs.declared.program.Func.{Func}
 use Rattle.c_tree.specs.declared.tree.Stmt.{Stmt, Row_of-Stmt, end_of-Stmt, more_of-Stmt, Held-Stmt-For-1, None', Some'}
 use Rattle.c_tree.specs.declared.tree.Stmt.TheVariants.{Empty, Scalar, Array, Assign, Call, Break, Continue, Return, If', While', Do', For', Group'}
 use Rattle.c_tree.specs.declared.tree.Stmt.TheBlock.{hidden-the_row-Stmt-0}
-use Rattle.c_tree.specs.Blocks.{is_simple, blocks, row_blocks, held_blocks}
-use Rattle.c_tree.specs.Statements.{block}
-use Rattle.flow_laws.specs.Sites.{Position, times_as_often, Copy, Land, Site, Targets, asks, body_of, call_sites, flow, flush, head, held_flow, held_size, list_flow, one, past, row_flow, row_size, size, with_next}
+use Rattle.c_tree.specs.Meaning.Blocks.{is_simple, blocks, row_blocks, held_blocks}
+use Rattle.c_tree.specs.Meaning.Statements.{block}
+use Rattle.flow_laws.specs.Sites.{Position, times_as_often, Copy, Land, Site, Targets, asks, body_of, call_sites, flow, flush, head, held_flow, held_size, list_flow, one_end_site, number_past, row_flow, row_size, site_count, with_next}
 use Rattle.flow_laws.specs.Graphs.{all_to, copy_of, copies}
-use Rattle.flow_laws.proofs.Copies.{row_flows}
+use Rattle.flow_laws.proofs.Runs.CopiesSound.{row_flows}
 
 abbrev pub BlockWithin : ℕ → Option BlockName → ℕ → Type 0
 BlockWithin m None cap = Unit {0}
@@ -49,7 +49,7 @@ module _ (m : ℕ) where
   call_tame w (Some c) t es b n next h k =
       let landing = n + 1 + c.size in
       let inner = c.sites (w.chain ++ b ∷ []) w.scale (n + 1) landing in
-      let land = one w (Land t c.result b) None next ∷ [] in
+      let land = one_end_site w (Land t c.result b) None next ∷ [] in
       (k.0, all_join inner land (h c refl (w.chain ++ b ∷ []) w.scale (n + 1) landing (blocks_split inner land k.1).0) (k.0, tt))
 
   flush_tame : (w : Position) (ss : List Stmt) (b : BlockName) (t : ℕ) → IsTame (flush w ss b t)
@@ -96,10 +96,10 @@ module _ (m : ℕ) where
       row_tame : {m : _} (w : Position) (x : Row_of-Stmt m) (b n : ℕ) (ss : List Stmt) (k : Targets) → IsTame (row_flow cs w x b n ss k)
       row_tame w end_of-Stmt b n ss k = flush_tame w ss (block w.func b) k.next
       row_tame w (more_of-Stmt st rest) b n ss k =
-          let n1 = past ss n in
-          let n2 = n1 + size cs st false in
+          let n1 = number_past ss n in
+          let n2 = n1 + site_count cs st false in
           let next = head (row_size cs rest false) n2 k.next in
-          row_tame_choose w ss (block w.func b) (head (size cs st false) n1 next) _ _ _ (row_tame w rest b n (ss ++ st ∷ []) k) (flow_tame w st (past ss b) n1 (with_next k next)) (row_tame w rest (past ss b + blocks st false) n2 [] k) (is_simple st)
+          row_tame_choose w ss (block w.func b) (head (site_count cs st false) n1 next) _ _ _ (row_tame w rest b n (ss ++ st ∷ []) k) (flow_tame w st (number_past ss b) n1 (with_next k next)) (row_tame w rest (number_past ss b + blocks st false) n2 [] k) (is_simple st)
 
       held_tame : (w : Position) (x : Held-Stmt-For-1) (b n : ℕ) (k : Targets) → IsTame (held_flow cs w x b n k)
       held_tame w None' b n k = λ h. tt

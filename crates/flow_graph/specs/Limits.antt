@@ -22,10 +22,11 @@ abbrev pub first_above : ℕ → List Site → Option BlockName
 first_above limit [] = None
 first_above limit (s ∷ g) = block_above limit s.node.block s.node.cap (first_above limit g)
 
-abbrev pub judged : ℕ → ℕ → Option BlockName → Option PlanFault
-judged copies edges above =
-    if nat_lt 1024 copies then Some Blocks else (if nat_lt 2048 edges then Some Edges else option_map (λ b. Cap b) above)
+abbrev pub size_verdict : ℕ → ℕ → Option BlockName → Option PlanFault
+size_verdict copies edges above =
+    if nat_lt 1024 copies then Some Blocks else (if nat_lt 2048 edges then Some Edges else option_map (λ b. Cap b)
+    above)
 
 -- why a graph is too large, if it is
-unfoldable pub refusal : List Site → Option PlanFault
-refusal g = judged (block_copies g) (length (edges g)) (first_above (2 ^ 40) g)
+unfoldable pub size_fault : List Site → Option PlanFault
+size_fault g = size_verdict (block_copies g) (length (edges g)) (first_above (2 ^ 40) g)

@@ -3,8 +3,8 @@ use Rattle.std.specs.Prelude.{◌≡◌, ℕ, ◌&&◌, Bool, nat_lt, List, leng
 use Rattle.std.specs.List.{list_all}
 use Rattle.c_tree.specs.declared.program.Program.{Program}
 use Rattle.c_tree.specs.declared.program.Costs.{Costs}
-use Rattle.c_tree.specs.Claims.{AreCostsOf}
-use Rattle.c_tree.specs.WellFormed.{WellFormed}
+use Rattle.c_tree.specs.Meaning.Claims.{AreCostsOf}
+use Rattle.c_tree.specs.Keeping.WellFormed.{WellFormed}
 use Rattle.flow_laws.specs.declared.graph.Edge.{Edge}
 use Rattle.flow_laws.specs.declared.graph.Loop.{Loop}
 use Rattle.flow_laws.specs.Sites.{Site}
@@ -14,7 +14,7 @@ use Rattle.graph_lists.specs.declared.onward.Outs.{Outs}
 use Rattle.graph_lists.specs.declared.interval.Span.{Span}
 use Rattle.graph_lists.specs.declared.spot.Spot.{Spot}
 use Rattle.graph_lists.specs.declared.touch.Touch.{Touch}
-use Rattle.flow_graph.specs.Limits.{refusal, block_copies}
+use Rattle.flow_graph.specs.Limits.{size_fault, block_copies}
 use Rattle.graph_lists.specs.Leaving.{all_outs}
 use Rattle.graph_lists.specs.Spans.{span_of}
 use Rattle.flow_graph.specs.Spots.{spots}
@@ -25,20 +25,21 @@ pub record Planned : Type 0 where
   pub program : Program
   pub costs : Costs
 
-abbrev pub planned : Program → Costs → Planned
-planned p t = record { program = p; costs = t }
+abbrev pub plan_with : Program → Costs → Planned
+plan_with p t = record { program = p; costs = t }
 
 -- what every plan keeps: its program is well-formed, its costs are of this program, and no limit refuses its graph
 pub record IsPlanned (plan : Planned) : Type 0 where
   pub formed : WellFormed plan.program
   pub costed : AreCostsOf plan.program plan.costs
-  pub allowed : refusal (graph plan.program) ≡ None
+  pub allowed : size_fault (graph plan.program) ≡ None
 
 -- the lists that a plan owns are those of the graph, and nothing refuses it
-pub record IsPlan (p : Program) (t : Costs) (laid : List Spot) (es : List Edge) (outs : List Outs) (ls : List Loop) (spans : List Span) (touches : List (List Touch)) (copies : ℕ) : Type 0 where
+pub record IsPlan (p : Program) (t : Costs) (laid : List Spot) (es : List Edge) (outs : List Outs) (ls : List Loop)
+    (spans : List Span) (touches : List (List Touch)) (copies : ℕ) : Type 0 where
   pub formed : WellFormed p
   pub costed : AreCostsOf p t
-  pub allowed : refusal (graph p) ≡ None
+  pub allowed : size_fault (graph p) ≡ None
   pub nodes_are : laid ≡ spots (graph p)
   pub edges_are : es ≡ edges (graph p)
   pub outs_are : outs ≡ all_outs 0 (spots (graph p))

@@ -2,14 +2,14 @@
 
 ghost use Rattle.std.specs.Prelude.{◌≡◌, ◌<◌, ◌≤◌, ◌^◌, None, Some, ◌&&◌, nat_lt, length, slice_get, map};
 ghost use Rattle.std.specs.List.{list_all};
-ghost use Rattle.c_tree.specs.Claims.{AreCostsOf};
-ghost use Rattle.c_tree.specs.WellFormed.{WellFormed};
+ghost use Rattle.c_tree.specs.Meaning.Claims.{AreCostsOf};
+ghost use Rattle.c_tree.specs.Keeping.WellFormed.{WellFormed};
 ghost use Rattle.flow_laws.specs.Graphs.{graph, nodes, edges, loops, loop_copies};
 ghost use Rattle.flow_laws.specs.Paths.{edge_cost, follows, keeps_each};
-ghost use Rattle.flow_graph.specs.Limits.{block_copies, refusal};
+ghost use Rattle.flow_graph.specs.Limits.{block_copies, size_fault};
 ghost use Rattle.flow_graph.specs.Landings.{calls};
 ghost use Rattle.graph_lists.specs.Leaving.{AreOuts};
-ghost use Rattle.flow_graph.specs.Plans.{IsPlan, IsPlanned, planned, keeps_all};
+ghost use Rattle.flow_graph.specs.Plans.{IsPlan, IsPlanned, plan_with, keeps_all};
 ghost use Rattle.graph_lists.specs.Spans.{span_of};
 ghost use Rattle.graph_lists.specs.Touches.{touches_of};
 
@@ -20,9 +20,9 @@ use graph_lists::{Outs, Span, Spot, Touch, keeps_all};
 use sqlite_items::Items;
 use std::marker::Model;
 
-/// A well-formed program with its costs and the flat graph of its entry function, calls inlined. Contracts see the program
-/// and its costs: nodes, edges and loop copies are those of the program's graph, so its laws hold of every plan. The graph
-/// has at most 1,024 block copies and 2,048 edges, and no cap of it is above 2^40.
+/// A well-formed program with its costs and the flat graph of its entry function, calls inlined. Contracts see the
+/// program and its costs: nodes, edges and loop copies are those of the program's graph, so its laws hold of every
+/// plan. The graph has at most 1,024 block copies and 2,048 edges, and no cap of it is above 2^40.
 #[derive(Drop)]
 pub struct Plan {
     program: Program,
@@ -37,7 +37,7 @@ pub struct Plan {
 }
 
 impl Model for Plan {
-    ghost use Rattle.flow_graph.specs.Plans.{Planned, IsPlan, planned};
+    ghost use Rattle.flow_graph.specs.Plans.{Planned, IsPlan, plan_with};
     ghost use Rattle.c_tree.specs.contracts.tree.Stmt as stmt;
     ghost use Rattle.c_tree.specs.contracts.tree.Expr as expr;
     ghost use Rattle.std.specs.Coded.{codes};
@@ -46,7 +46,7 @@ impl Model for Plan {
 
     ghost coded = { Prim.hlevel (codes, stmt.the_row.coded, expr.the_row.coded) };
 
-    ghost view = { λ p. planned p.program p.costs };
+    ghost view = { λ p. plan_with p.program p.costs };
 
     ghost invariant = { λ p. IsPlan p.program p.costs p.spots p.edges p.outs p.loops p.spans p.touches p.copies };
 }
@@ -65,7 +65,7 @@ impl Plan {
         copies: u32,
     ) -> Plan
         requires { IsPlan program costs spots edges outs loops spans touches copies }
-        ensures { result ≡ planned program costs }
+        ensures { result ≡ plan_with program costs }
     {
         Plan {
             program,
@@ -85,7 +85,7 @@ impl Plan {
         ensures value { result.now ≡ self.now.program }
         ensures planned { IsPlanned self.now }
         ensures formed { WellFormed self.now.program }
-        ensures allowed { refusal (graph self.now.program) ≡ None }
+        ensures allowed { size_fault (graph self.now.program) ≡ None }
     {
         &self.program
     }
@@ -194,9 +194,10 @@ impl Plan {
         follows(self.edges.as_slice(), list)
     }
 
-    /// Whether the list names only edges and keeps every loop's bound: after each edge that enters a loop copy from outside,
-    /// up to the next one, it has the `True` of the loop's condition at most as often as its bound says; of `do`, once less. One
-    /// pass over the list with a counter for each loop: at each edge it looks at the loops that the edge enters or turns.
+    /// Whether the list names only edges and keeps every loop's bound: after each edge that enters a loop copy from
+    /// outside, up to the next one, it has the `True` of the loop's condition at most as often as its bound says; of
+    /// `do`, once less. One pass over the list with a counter for each loop: at each edge it looks at the loops that
+    /// the edge enters or turns.
     pub fn keeps(&self, list: &[u16]) -> bool
         ensures { result ≡ keeps_all (graph self.now.program) list.now }
     {

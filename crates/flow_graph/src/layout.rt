@@ -4,13 +4,25 @@ ghost use Rattle.std.specs.Prelude.{◌≡◌, ◌<◌, ◌≤◌, ◌+◌, ◌*
 ghost use Rattle.c_tree.specs.declared.tree.Target.{Target};
 ghost use Rattle.c_tree.specs.declared.tree.Expr.{Expr};
 ghost use Rattle.c_tree.specs.declared.tree.Stmt.TheVariants.{If, While, Do, For};
-ghost use Rattle.c_tree.specs.Blocks.{is_simple, blocks, list_blocks};
-ghost use Rattle.c_tree.specs.Statements.{block, held};
-ghost use Rattle.flow_laws.specs.Sites.{head, size, list_size, flow, with_next, body_of, call_sites, call_size};
+ghost use Rattle.c_tree.specs.Meaning.Blocks.{is_simple, blocks, list_blocks};
+ghost use Rattle.c_tree.specs.Meaning.Statements.{block, held_stmts};
+ghost use Rattle.flow_laws.specs.Sites.{head, site_count, list_size, flow, with_next, body_of, call_sites, call_size};
 ghost use Rattle.flow_laws.specs.Graphs.{copies, all_to};
-ghost use Rattle.graph_lists.specs.Amounts.{kept};
+ghost use Rattle.graph_lists.specs.Amounts.{capped_amount};
 ghost use Rattle.flow_graph.specs.Spots.{spots};
-ghost use Rattle.flow_graph.specs.Layout.{AreSizes, copies_above, place, turn, targets, spot_at, landing_at, pending, past_run, list_spots, laid_out};
+ghost use Rattle.flow_graph.specs.Layout.{
+  AreSizes,
+  copies_above,
+  position_at,
+  turn_between,
+  lead_targets,
+  spot_at,
+  landing_at,
+  pending_spots,
+  past_run,
+  list_spots,
+  laid_out,
+};
 
 use c_semantics::is_simple;
 use c_tree::{BlockName, Func, NoMemory, Stmt};
@@ -25,7 +37,8 @@ pub(crate) const EACH: Weights = Weights {
     landing: 1,
 };
 
-/// The function number `func` of `funcs`, as it is copied for the calls of `chain`; `above` has the sizes of those above it.
+/// The function number `func` of `funcs`, as it is copied for the calls of `chain`; `above` has the sizes of those
+/// above it.
 #[derive(Clone, Copy)]
 pub(crate) struct Scope<'p> {
     pub funcs: &'p [Func],
@@ -51,8 +64,8 @@ pub(crate) struct Leads {
     pub returns: u32,
 }
 
-/// A node; or the node of a call, its block, and the number of its callee with that of the first node of the callee's copy,
-/// which comes next.
+/// A node; or the node of a call, its block, and the number of its callee with that of the first node of the callee's
+/// copy, which comes next.
 #[derive(Drop)]
 pub(crate) enum Item {
     One(Spot),
@@ -76,8 +89,8 @@ fn list_nodes(scope: Scope, list: &[Stmt]) -> u32
 
 fn stmt_nodes(scope: Scope, stmt: &Stmt, run: bool) -> u32
     requires known { AreSizes scope.funcs.now scope.above.now scope.func }
-    requires room { size (copies_above scope.funcs.now scope.func) stmt.now run < 2 ^ 32 }
-    ensures { result ≡ size (copies_above scope.entry.funcs.now scope.entry.func) stmt.now run }
+    requires room { site_count (copies_above scope.funcs.now scope.func) stmt.now run < 2 ^ 32 }
+    ensures { result ≡ site_count (copies_above scope.entry.funcs.now scope.entry.func) stmt.now run }
 {
     stmt_amount(stmt, run, EACH, scope.above) as u32
 }
@@ -91,7 +104,8 @@ fn spot(
     yes: u32,
     no: u32,
 ) -> Result<Spot, NoMemory>
-    ensures { IfOk result (λ s. s ≡ spot_at (place scope.entry.func scope.entry.chain.now at.scale) at.block ends yes no) }
+    ensures { IfOk result (λ s. s ≡ spot_at (position_at scope.entry.func scope.entry.chain.now at.scale) at.block ends
+        yes no) }
 {
     let block = BlockName {
         func: scope.func,
@@ -120,7 +134,7 @@ fn landing(
     scale: u64,
     next: u32,
 ) -> Result<Spot, NoMemory>
-    ensures { IfOk result (λ s. s ≡ landing_at (place scope.entry.func scope.entry.chain.now scale) call next) }
+    ensures { IfOk result (λ s. s ≡ landing_at (position_at scope.entry.func scope.entry.chain.now scale) call next) }
 {
     let chain = Items::from_slice(alloc, scope.chain)?;
     let node = Node {
@@ -149,7 +163,9 @@ fn put(
 ) -> Result<u32, NoMemory>
     requires { at.block + 1 < 2 ^ 32 }
     ensures block { IfOk result (λ b. b ≡ at.block + 1) }
-    ensures items { IfOk result (λ b. laid_out (copies [] scope.entry.funcs.now) out.new ≡ laid_out (copies [] scope.entry.funcs.now) out.old ++ spot_at (place scope.entry.func scope.entry.chain.now at.scale) at.block ends yes no ∷ []) }
+    ensures items { IfOk result (λ b. laid_out (copies [] scope.entry.funcs.now) out.new
+        ≡ laid_out (copies [] scope.entry.funcs.now) out.old
+        ++ spot_at (position_at scope.entry.func scope.entry.chain.now at.scale) at.block ends yes no ∷ []) }
 {
     let spot = spot(alloc, scope, at, ends, yes, no)?;
     out.push(Item::One(spot))?;
@@ -158,8 +174,8 @@ fn put(
 
 fn held_nodes(scope: Scope, part: &Option<Boxed<Stmt>>) -> u32
     requires known { AreSizes scope.funcs.now scope.above.now scope.func }
-    requires room { list_size (copies_above scope.funcs.now scope.func) (held part.now) false < 2 ^ 32 }
-    ensures { result ≡ list_size (copies_above scope.entry.funcs.now scope.entry.func) (held part.now) false }
+    requires room { list_size (copies_above scope.funcs.now scope.func) (held_stmts part.now) false < 2 ^ 32 }
+    ensures { result ≡ list_size (copies_above scope.entry.funcs.now scope.entry.func) (held_stmts part.now) false }
 {
     match part {
         None => 0,
@@ -176,7 +192,7 @@ fn place(scale: u64, block: u32, node: u32) -> At
 }
 
 fn turn(from: u32, past: u32, bound: u32, at_end: bool) -> Turn
-    ensures { result ≡ turn from past bound at_end }
+    ensures { result ≡ turn_between from past bound at_end }
 {
     Turn {
         from,
@@ -188,27 +204,27 @@ fn turn(from: u32, past: u32, bound: u32, at_end: bool) -> Turn
 
 // How often the body of a loop is reached, whose place is reached `scale` times.
 fn as_often(scale: u64, bound: u32) -> u64
-    ensures { result ≡ kept (scale * bound) }
+    ensures { result ≡ capped_amount (scale * bound) }
 {
     scale.saturating_mul(u64::from(bound))
 }
 
 // The same of the condition of `while` and `for`.
 fn more_often(scale: u64, bound: u32) -> u64
-    ensures { result ≡ kept (scale * (bound + 1)) }
+    ensures { result ≡ capped_amount (scale * (bound + 1)) }
 {
     scale.saturating_mul(u64::from(bound) + 1)
 }
 
 fn with_next(k: Leads, next: u32) -> Leads
-    ensures { targets result ≡ with_next (targets k) next }
+    ensures { lead_targets result ≡ with_next (lead_targets k) next }
 {
     Leads { next, ..k }
 }
 
 // Where the body of a loop leads: `break` to what is next after the loop, its end and `continue` to `next`.
 fn inside(k: Leads, next: u32) -> Leads
-    ensures { targets result ≡ body_of (targets k) next }
+    ensures { lead_targets result ≡ body_of (lead_targets k) next }
 {
     Leads {
         next,
@@ -229,7 +245,9 @@ fn put_pending(
 ) -> Result<u32, NoMemory>
     requires { past_run run at.block < 2 ^ 32 }
     ensures block { IfOk result (λ b. b ≡ past_run run at.block) }
-    ensures items { IfOk result (λ b. laid_out (copies [] scope.entry.funcs.now) out.new ≡ laid_out (copies [] scope.entry.funcs.now) out.old ++ pending (place scope.entry.func scope.entry.chain.now at.scale) run at.block next) }
+    ensures items { IfOk result (λ b. laid_out (copies [] scope.entry.funcs.now) out.new
+        ≡ laid_out (copies [] scope.entry.funcs.now) out.old
+        ++ pending_spots (position_at scope.entry.func scope.entry.chain.now at.scale) run at.block next) }
 {
     if run {
         put(alloc, scope, at, Ends::Once, next, next, out)
@@ -258,7 +276,11 @@ fn put_call(
     requires block { at.block + 1 < 2 ^ 32 }
     requires room { at.node + call_size (slice_get (copies_above scope.funcs.now scope.func) callee) < 2 ^ 32 }
     ensures block { IfOk result (λ b. b ≡ at.block + 1) }
-    ensures items { IfOk result (λ b. (t : Target) (es : List Expr) → laid_out (copies [] scope.entry.funcs.now) out.new ≡ laid_out (copies [] scope.entry.funcs.now) out.old ++ spots (call_sites (place scope.entry.func scope.entry.chain.now at.scale) (slice_get (copies_above scope.entry.funcs.now scope.entry.func) callee) t es (block scope.entry.func at.block) at.node next)) }
+    ensures items { IfOk result (λ b. (t : Target) (es : List Expr) → laid_out (copies [] scope.entry.funcs.now)
+        out.new ≡ laid_out (copies [] scope.entry.funcs.now) out.old
+        ++ spots (call_sites (position_at scope.entry.func scope.entry.chain.now at.scale)
+        (slice_get (copies_above scope.entry.funcs.now scope.entry.func) callee) t es (block scope.entry.func at.block)
+        at.node next)) }
 {
     let first = at.node + 1;
     let Some(size) = size_above(scope.above, callee) else {
@@ -294,7 +316,11 @@ pub(crate) fn emit_list(
     requires blocks { at.block ≤ at.node }
     requires room { at.node + list_size (copies_above scope.funcs.now scope.func) list.now false < 2 ^ 32 }
     ensures block { IfOk result (λ b. b ≡ at.block + list_blocks list.now false) }
-    ensures items { IfOk result (λ b. laid_out (copies [] scope.entry.funcs.now) out.new ≡ laid_out (copies [] scope.entry.funcs.now) out.old ++ list_spots (copies_above scope.entry.funcs.now scope.entry.func) (place scope.entry.func scope.entry.chain.now at.scale) list.now at.block at.node false (targets k)) }
+    ensures items { IfOk result (λ b. laid_out (copies [] scope.entry.funcs.now) out.new
+        ≡ laid_out (copies [] scope.entry.funcs.now) out.old
+        ++ list_spots (copies_above scope.entry.funcs.now scope.entry.func)
+        (position_at scope.entry.func scope.entry.chain.now at.scale) list.now at.block at.node false (lead_targets k))
+            }
 {
     let mut left = list_nodes(scope, list);
     let mut block = at.block;
@@ -333,9 +359,13 @@ fn emit_held(
 ) -> Result<u32, NoMemory>
     requires known { AreSizes scope.funcs.now scope.above.now scope.func }
     requires blocks { at.block ≤ at.node }
-    requires room { at.node + list_size (copies_above scope.funcs.now scope.func) (held part.now) false < 2 ^ 32 }
-    ensures block { IfOk result (λ b. b ≡ at.block + list_blocks (held part.now) false) }
-    ensures items { IfOk result (λ b. laid_out (copies [] scope.entry.funcs.now) out.new ≡ laid_out (copies [] scope.entry.funcs.now) out.old ++ list_spots (copies_above scope.entry.funcs.now scope.entry.func) (place scope.entry.func scope.entry.chain.now at.scale) (held part.now) at.block at.node false (targets k)) }
+    requires room { at.node + list_size (copies_above scope.funcs.now scope.func) (held_stmts part.now) false < 2 ^ 32 }
+    ensures block { IfOk result (λ b. b ≡ at.block + list_blocks (held_stmts part.now) false) }
+    ensures items { IfOk result (λ b. laid_out (copies [] scope.entry.funcs.now) out.new
+        ≡ laid_out (copies [] scope.entry.funcs.now) out.old
+        ++ list_spots (copies_above scope.entry.funcs.now scope.entry.func)
+        (position_at scope.entry.func scope.entry.chain.now at.scale) (held_stmts part.now) at.block at.node false
+        (lead_targets k)) }
 {
     let Some(stmt) = part else {
         return Ok(at.block);
@@ -360,9 +390,14 @@ fn emit_if(
 ) -> Result<u32, NoMemory>
     requires known { AreSizes scope.funcs.now scope.above.now scope.func }
     requires blocks { at.block ≤ at.node }
-    requires room { at.node + (1 + list_size (copies_above scope.funcs.now scope.func) first.now false + list_size (copies_above scope.funcs.now scope.func) second.now false) < 2 ^ 32 }
+    requires room { at.node + (1 + list_size (copies_above scope.funcs.now scope.func) first.now false
+        + list_size (copies_above scope.funcs.now scope.func) second.now false) < 2 ^ 32 }
     ensures block { IfOk result (λ b. b ≡ at.block + (1 + list_blocks first.now false + list_blocks second.now false)) }
-    ensures items { IfOk result (λ b. (e : Expr) → laid_out (copies [] scope.entry.funcs.now) out.new ≡ laid_out (copies [] scope.entry.funcs.now) out.old ++ spots (flow (copies_above scope.entry.funcs.now scope.entry.func) (place scope.entry.func scope.entry.chain.now at.scale) (If e first.now second.now) at.block at.node (targets k))) }
+    ensures items { IfOk result (λ b. (e : Expr) → laid_out (copies [] scope.entry.funcs.now) out.new
+        ≡ laid_out (copies [] scope.entry.funcs.now) out.old
+        ++ spots (flow (copies_above scope.entry.funcs.now scope.entry.func)
+        (position_at scope.entry.func scope.entry.chain.now at.scale) (If e first.now second.now) at.block at.node
+        (lead_targets k))) }
 {
     let count = list_nodes(scope, first);
     let other = at.node + 1 + count;
@@ -391,7 +426,11 @@ fn emit_while(
     requires blocks { at.block ≤ at.node }
     requires room { at.node + (1 + list_size (copies_above scope.funcs.now scope.func) body.now false) < 2 ^ 32 }
     ensures block { IfOk result (λ b. b ≡ at.block + (1 + list_blocks body.now false)) }
-    ensures items { IfOk result (λ b. (e : Expr) → laid_out (copies [] scope.entry.funcs.now) out.new ≡ laid_out (copies [] scope.entry.funcs.now) out.old ++ spots (flow (copies_above scope.entry.funcs.now scope.entry.func) (place scope.entry.func scope.entry.chain.now at.scale) (While bound e body.now) at.block at.node (targets k))) }
+    ensures items { IfOk result (λ b. (e : Expr) → laid_out (copies [] scope.entry.funcs.now) out.new
+        ≡ laid_out (copies [] scope.entry.funcs.now) out.old
+        ++ spots (flow (copies_above scope.entry.funcs.now scope.entry.func)
+        (position_at scope.entry.func scope.entry.chain.now at.scale) (While bound e body.now) at.block at.node
+        (lead_targets k))) }
 {
     let count = list_nodes(scope, body);
     let turn = turn(at.node, at.node + 1 + count, bound, false);
@@ -417,7 +456,11 @@ fn emit_do(
     requires blocks { at.block ≤ at.node }
     requires room { at.node + (list_size (copies_above scope.funcs.now scope.func) body.now false + 1) < 2 ^ 32 }
     ensures block { IfOk result (λ b. b ≡ at.block + (list_blocks body.now false + 1)) }
-    ensures items { IfOk result (λ b. (e : Expr) → laid_out (copies [] scope.entry.funcs.now) out.new ≡ laid_out (copies [] scope.entry.funcs.now) out.old ++ spots (flow (copies_above scope.entry.funcs.now scope.entry.func) (place scope.entry.func scope.entry.chain.now at.scale) (Do bound body.now e) at.block at.node (targets k))) }
+    ensures items { IfOk result (λ b. (e : Expr) → laid_out (copies [] scope.entry.funcs.now) out.new
+        ≡ laid_out (copies [] scope.entry.funcs.now) out.old
+        ++ spots (flow (copies_above scope.entry.funcs.now scope.entry.func)
+        (position_at scope.entry.func scope.entry.chain.now at.scale) (Do bound body.now e) at.block at.node
+        (lead_targets k))) }
 {
     let test = at.node + list_nodes(scope, body);
     let scale = as_often(at.scale, bound);
@@ -443,9 +486,16 @@ fn emit_for(
 ) -> Result<u32, NoMemory>
     requires known { AreSizes scope.funcs.now scope.above.now scope.func }
     requires blocks { at.block ≤ at.node }
-    requires room { at.node + (list_size (copies_above scope.funcs.now scope.func) (held first.now) false + 1 + list_size (copies_above scope.funcs.now scope.func) (held step.now) false + list_size (copies_above scope.funcs.now scope.func) body.now false) < 2 ^ 32 }
-    ensures block { IfOk result (λ b. b ≡ at.block + (list_blocks (held first.now) false + 1 + list_blocks (held step.now) false + list_blocks body.now false)) }
-    ensures items { IfOk result (λ b. (e : Expr) → laid_out (copies [] scope.entry.funcs.now) out.new ≡ laid_out (copies [] scope.entry.funcs.now) out.old ++ spots (flow (copies_above scope.entry.funcs.now scope.entry.func) (place scope.entry.func scope.entry.chain.now at.scale) (For bound first.now e step.now body.now) at.block at.node (targets k))) }
+    requires room { at.node + (list_size (copies_above scope.funcs.now scope.func) (held_stmts first.now) false + 1
+        + list_size (copies_above scope.funcs.now scope.func) (held_stmts step.now) false
+        + list_size (copies_above scope.funcs.now scope.func) body.now false) < 2 ^ 32 }
+    ensures block { IfOk result (λ b. b ≡ at.block + (list_blocks (held_stmts first.now) false + 1
+        + list_blocks (held_stmts step.now) false + list_blocks body.now false)) }
+    ensures items { IfOk result (λ b. (e : Expr) → laid_out (copies [] scope.entry.funcs.now) out.new
+        ≡ laid_out (copies [] scope.entry.funcs.now) out.old
+        ++ spots (flow (copies_above scope.entry.funcs.now scope.entry.func)
+        (position_at scope.entry.func scope.entry.chain.now at.scale) (For bound first.now e step.now body.now)
+        at.block at.node (lead_targets k))) }
 {
     let test = at.node + held_nodes(scope, first);
     let between = held_nodes(scope, step);
@@ -466,7 +516,8 @@ fn emit_for(
 
 // A statement that is not simple.
 #[cycle(emit)]
-#[tactic(auto, using(flow_laws::proofs::FlowLayers::flow_layers, c_tree::proofs::ExecLayers::exec_layers))]
+#[tactic(auto, using(flow_laws::proofs::Graphs::FlowLayers::flow_layers,
+    c_tree::proofs::Layers::ExecLayers::exec_layers))]
 fn emit(
     alloc: Global,
     scope: Scope,
@@ -478,9 +529,12 @@ fn emit(
     requires known { AreSizes scope.funcs.now scope.above.now scope.func }
     requires plain { is_simple stmt.now ≡ false }
     requires blocks { at.block ≤ at.node }
-    requires room { at.node + size (copies_above scope.funcs.now scope.func) stmt.now false < 2 ^ 32 }
+    requires room { at.node + site_count (copies_above scope.funcs.now scope.func) stmt.now false < 2 ^ 32 }
     ensures block { IfOk result (λ b. b ≡ at.block + blocks stmt.now false) }
-    ensures items { IfOk result (λ b. laid_out (copies [] scope.entry.funcs.now) out.new ≡ laid_out (copies [] scope.entry.funcs.now) out.old ++ spots (flow (copies_above scope.entry.funcs.now scope.entry.func) (place scope.entry.func scope.entry.chain.now at.scale) stmt.now at.block at.node (targets k))) }
+    ensures items { IfOk result (λ b. laid_out (copies [] scope.entry.funcs.now) out.new
+        ≡ laid_out (copies [] scope.entry.funcs.now) out.old
+        ++ spots (flow (copies_above scope.entry.funcs.now scope.entry.func)
+        (position_at scope.entry.func scope.entry.chain.now at.scale) stmt.now at.block at.node (lead_targets k))) }
 {
     match stmt {
         Stmt::Group(list) => emit_list(alloc, scope, list.as_slice(), at, k, out),

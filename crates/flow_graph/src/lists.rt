@@ -1,7 +1,7 @@
 //! Lists of edges: whether they follow one another, and what an edge costs.
 
 ghost use Rattle.std.specs.Prelude.{◌≡◌, ◌<◌, ◌^◌, slice_get};
-ghost use Rattle.c_tree.specs.Claims.{block_cost};
+ghost use Rattle.c_tree.specs.Meaning.Claims.{block_cost};
 ghost use Rattle.flow_laws.specs.Paths.{follows};
 ghost use Rattle.flow_graph.specs.Plans.{cost_of_source};
 

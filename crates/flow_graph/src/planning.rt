@@ -1,13 +1,13 @@
 //! Planning.
 
 ghost use Rattle.std.specs.Prelude.{◌≡◌, ◌≢◌, ◌<◌, ◌≤◌, None, Some, [], length, slice_get, IfOk, IfErr, OnOk};
-ghost use Rattle.c_tree.specs.Claims.{AreCostsOf};
-ghost use Rattle.c_tree.specs.WellFormed.{WellFormed};
+ghost use Rattle.c_tree.specs.Meaning.Claims.{AreCostsOf};
+ghost use Rattle.c_tree.specs.Keeping.WellFormed.{WellFormed};
 ghost use Rattle.flow_laws.specs.Graphs.{graph, edges};
 ghost use Rattle.graph_lists.specs.Amounts.{amounts};
 ghost use Rattle.flow_graph.specs.Spots.{spots};
-ghost use Rattle.flow_graph.specs.Limits.{refusal, block_copies};
-ghost use Rattle.flow_graph.specs.Plans.{planned};
+ghost use Rattle.flow_graph.specs.Limits.{size_fault, block_copies};
+ghost use Rattle.flow_graph.specs.Plans.{plan_with};
 ghost use Rattle.flow_graph.specs.declared.fault.PlanFault.TheVariants as PlanFault;
 
 use crate::fault::PlanFault;
@@ -33,8 +33,8 @@ const EDGES: Weights = Weights {
     landing: 1,
 };
 
-/// The plan of a program with its costs: the flat graph of its entry function, calls inlined. Program and costs are consumed,
-/// also where there is no plan; whoever needs them again copies them first.
+/// The plan of a program with its costs: the flat graph of its entry function, calls inlined. Program and costs are
+/// consumed, also where there is no plan; whoever needs them again copies them first.
 ///
 /// # Errors
 ///
@@ -42,9 +42,9 @@ const EDGES: Weights = Weights {
 /// anything is built, in time linear in the program.
 pub fn plan(alloc: Global, program: Program, costs: Costs) -> Result<Plan, PlanFault>
     requires costed { AreCostsOf program costs }
-    ensures plan { IfOk result (λ p. p ≡ planned program costs) }
-    ensures whole { OnOk result (refusal (graph program) ≡ None) }
-    ensures refused { IfErr result (λ e. e ≢ PlanFault.NoMemory → refusal (graph program) ≡ Some e) }
+    ensures plan { IfOk result (λ p. p ≡ plan_with program costs) }
+    ensures whole { OnOk result (size_fault (graph program) ≡ None) }
+    ensures refused { IfErr result (λ e. e ≢ PlanFault.NoMemory → size_fault (graph program) ≡ Some e) }
 {
     program_is_well_formed(&program);
     let copies = check_size(alloc, &program)?;
@@ -66,7 +66,7 @@ fn check_size(alloc: Global, program: &Program) -> Result<u32, PlanFault>
     ensures copies { IfOk result (λ n. n ≡ block_copies (graph program.now)) }
     ensures few { OnOk result (block_copies (graph program.now) ≤ 1024) }
     ensures fewer { OnOk result (length (edges (graph program.now)) ≤ 2048) }
-    ensures refused { IfErr result (λ e. e ≢ PlanFault.NoMemory → refusal (graph program.now) ≡ Some e) }
+    ensures refused { IfErr result (λ e. e ≢ PlanFault.NoMemory → size_fault (graph program.now) ≡ Some e) }
 {
     let copies = counted(alloc, program, COPIES)?;
     if copies > 1024 {
@@ -85,8 +85,8 @@ fn check_caps(program: &Program, laid: &[Spot]) -> Result<(), PlanFault>
     requires nodes { laid.now ≡ spots (graph program.now) }
     requires few { block_copies (graph program.now) ≤ 1024 }
     requires fewer { length (edges (graph program.now)) ≤ 2048 }
-    ensures whole { OnOk result (refusal (graph program.now) ≡ None) }
-    ensures refused { IfErr result (λ e. refusal (graph program.now) ≡ Some e) }
+    ensures whole { OnOk result (size_fault (graph program.now) ≡ None) }
+    ensures refused { IfErr result (λ e. size_fault (graph program.now) ≡ Some e) }
 {
     match first_above(laid) {
         None => Ok(()),

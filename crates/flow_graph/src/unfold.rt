@@ -1,12 +1,21 @@
-//! All nodes of a program: what a function's layout leaves to its callees is laid out in turn, by a list of what is still to
-//! come. So the chains of calls need no stack.
+//! All nodes of a program: what a function's layout leaves to its callees is laid out in turn, by a list of what is
+//! still to come. So the chains of calls need no stack.
 
 ghost use Rattle.std.specs.Prelude.{◌≡◌, ◌<◌, ◌+◌, ◌^◌, ◌++◌, ◌∷◌, [], suc, length, slice_get, unwrap_or, IfOk};
 ghost use Rattle.flow_laws.specs.Sites.{head};
 ghost use Rattle.flow_laws.specs.Graphs.{copies, sites_of};
 ghost use Rattle.graph_lists.specs.Amounts.{amounts};
 ghost use Rattle.flow_graph.specs.Spots.{spots};
-ghost use Rattle.flow_graph.specs.Layout.{each, HasRoom, body_spots, copy_spots, item_spots, laid_out, laid_back, outer_spot};
+ghost use Rattle.flow_graph.specs.Layout.{
+  each,
+  HasRoom,
+  body_spots,
+  copy_spots,
+  item_spots,
+  laid_out,
+  laid_back,
+  outer_spot,
+};
 
 use crate::layout::{At, Item, Leads, Scope, emit_list};
 use c_tree::{BlockName, Func, NoMemory};
@@ -15,7 +24,8 @@ use graph_lists::{Ends, Spot};
 use sqlite_items::Items;
 use std::alloc::Global;
 
-/// All nodes, in the order of their numbers, from the function number `entry` on; `sizes` has the size of each function.
+/// All nodes, in the order of their numbers, from the function number `entry` on; `sizes` has the size of each
+/// function.
 pub(crate) fn lay_out(
     alloc: Global,
     funcs: &[Func],
@@ -77,7 +87,8 @@ fn step(
     out: &mut Items<Spot>,
 ) -> Result<(), NoMemory>
     requires sizes { sizes.now ≡ amounts each [] funcs.now }
-    ensures items { IfOk result (λ u. out.new ++ laid_back (copies [] funcs.now) todo.new ≡ out.old ++ (item_spots (copies [] funcs.now) item ++ laid_back (copies [] funcs.now) todo.old)) }
+    ensures items { IfOk result (λ u. out.new ++ laid_back (copies [] funcs.now) todo.new ≡ out.old
+        ++ (item_spots (copies [] funcs.now) item ++ laid_back (copies [] funcs.now) todo.old)) }
     ensures more { IfOk result (λ u. length out.new ≡ suc (length out.old)) }
 {
     match item {
@@ -116,7 +127,9 @@ fn push_copy(
     todo: &mut Items<Item>,
 ) -> Result<(), NoMemory>
     requires sizes { sizes.now ≡ amounts each [] funcs.now }
-    ensures { IfOk result (λ u. laid_back (copies [] funcs.now) todo.new ≡ copy_spots (slice_get (copies [] funcs.now) callee) chain.now scale first ++ laid_back (copies [] funcs.now) todo.old) }
+    ensures { IfOk result (λ u. laid_back (copies [] funcs.now) todo.new
+        ≡ copy_spots (slice_get (copies [] funcs.now) callee) chain.now scale first ++ laid_back (copies [] funcs.now)
+        todo.old) }
 {
     let Some(size) = size_of(sizes, callee) else {
         return Ok(());
@@ -161,7 +174,9 @@ fn push_body(
     requires sizes { sizes.now ≡ amounts each [] funcs.now }
     requires func { func < length funcs.now }
     requires room { HasRoom (slice_get (copies [] funcs.now) func) first }
-    ensures { IfOk result (λ u. laid_back (copies [] funcs.now) todo.new ≡ body_spots (slice_get (copies [] funcs.now) func) chain.now scale first landing ++ laid_back (copies [] funcs.now) todo.old) }
+    ensures { IfOk result (λ u. laid_back (copies [] funcs.now) todo.new
+        ≡ body_spots (slice_get (copies [] funcs.now) func) chain.now scale first landing
+        ++ laid_back (copies [] funcs.now) todo.old) }
 {
     let scope = Scope {
         funcs,
@@ -188,7 +203,8 @@ fn push_body(
 
 // The items, the first of them to come next.
 fn push_back(funcs: &[Func], items: Items<Item>, todo: &mut Items<Item>) -> Result<(), NoMemory>
-    ensures { IfOk result (λ u. laid_back (copies [] funcs.now) todo.new ≡ laid_out (copies [] funcs.now) items ++ laid_back (copies [] funcs.now) todo.old) }
+    ensures { IfOk result (λ u. laid_back (copies [] funcs.now) todo.new ≡ laid_out (copies [] funcs.now) items
+        ++ laid_back (copies [] funcs.now) todo.old) }
 {
     let mut items = items;
     'items: while let Some(item) = items.pop() {

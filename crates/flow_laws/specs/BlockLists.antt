@@ -5,11 +5,25 @@ use Rattle.c_tree.specs.declared.tree.Ty.{Ty}
 use Rattle.c_tree.specs.declared.tree.Expr.{Expr}
 use Rattle.c_tree.specs.declared.tree.Target.{Target}
 use Rattle.c_tree.specs.declared.tree.Stmt.{Stmt, Row_of-Stmt, end_of-Stmt, more_of-Stmt, Held-Stmt-For-1, None', Some'}
-use Rattle.c_tree.specs.declared.tree.Stmt.TheVariants.{Empty, Scalar, Array, Assign, Call, Break, Continue, Return, If', While', Do', For', Group'}
+use Rattle.c_tree.specs.declared.tree.Stmt.TheVariants.{
+  Empty,
+  Scalar,
+  Array,
+  Assign,
+  Call,
+  Break,
+  Continue,
+  Return,
+  If',
+  While',
+  Do',
+  For',
+  Group',
+}
 use Rattle.c_tree.specs.declared.program.BlockName.{BlockName}
 use Rattle.c_tree.specs.declared.program.Func.{Func}
 use Rattle.c_tree.specs.declared.program.Program.{Program}
-use Rattle.c_tree.specs.Blocks.{is_simple}
+use Rattle.c_tree.specs.Meaning.Blocks.{is_simple}
 use Rattle.flow_laws.specs.Sites.{Content, Entry, Exit, Simple, Test, Jump, Give, Enter, Missing, Land}
 
 -- a block: a run of simple statements, a condition, a jump, a `return` or a call
@@ -46,7 +60,8 @@ unfoldable mutual
   pub blocks_of_row : {m : _} → List Stmt → Row_of-Stmt m → List Block
   blocks_of_row ss end_of-Stmt = block_of_run ss
   blocks_of_row ss (more_of-Stmt s rest) =
-      if is_simple s then blocks_of_row (ss ++ s ∷ []) rest else block_of_run ss ++ (blocks_of_stmt s ++ blocks_of_row [] rest)
+      if is_simple s then blocks_of_row (ss ++ s ∷ []) rest else block_of_run ss
+      ++ (blocks_of_stmt s ++ blocks_of_row [] rest)
 
   pub blocks_of_held : Held-Stmt-For-1 → List Block
   blocks_of_held None' = []
@@ -55,7 +70,8 @@ unfoldable mutual
 abbrev pub blocks_of_list : List Stmt → List Stmt → List Block
 blocks_of_list ss [] = block_of_run ss
 blocks_of_list ss (s ∷ rest) =
-    if is_simple s then blocks_of_list (ss ++ s ∷ []) rest else block_of_run ss ++ (blocks_of_stmt s ++ blocks_of_list [] rest)
+    if is_simple s then blocks_of_list (ss ++ s ∷ []) rest else block_of_run ss
+    ++ (blocks_of_stmt s ++ blocks_of_list [] rest)
 
 -- the blocks of a function
 abbrev pub blocks_of_body : Func → List Block
@@ -88,9 +104,9 @@ plain Missing = Missing
 plain (Land t ty b) = Land t ty b
 
 -- a call of this function
-abbrev pub entered : Option Func → Target → List Expr → Content
-entered None t es = Missing
-entered (Some f) t es = Enter t f.locals es
+abbrev pub call_content : Option Func → Target → List Expr → Content
+call_content None t es = Missing
+call_content (Some f) t es = Enter t f.locals es
 
 -- a copy of a block of the function number k, from which those above it can be called
 abbrev pub block_content : Program → ℕ → Option Block → Content
@@ -99,20 +115,20 @@ block_content p k (Some (Run ss)) = Simple ss
 block_content p k (Some (Asks e)) = Test None e
 block_content p k (Some Jumps) = Jump
 block_content p k (Some (Gives e)) = Give e
-block_content p k (Some (Calls t g es)) = if nat_lt g k then entered (slice_get p.funcs g) t es else Missing
+block_content p k (Some (Calls t g es)) = if nat_lt g k then call_content (slice_get p.funcs g) t es else Missing
 
 abbrev pub result_of_func : Option Func → Option Ty
 result_of_func None = None
 result_of_func (Some f) = f.result
 
 -- the landing of the call that is the block of this name: it has the call's target, and the type of the callee's result
-abbrev pub landed : Program → BlockName → Option Block → Content
-landed p b (Some (Calls t g es)) = Land t (result_of_func (slice_get p.funcs g)) b
-landed p b _ = Missing
+abbrev pub landing_at_block : Program → BlockName → Option Block → Content
+landing_at_block p b (Some (Calls t g es)) = Land t (result_of_func (slice_get p.funcs g)) b
+landing_at_block p b _ = Missing
 
 abbrev pub landing_content : Program → Option BlockName → Content
 landing_content p None = Missing
-landing_content p (Some b) = landed p b (block_at p b)
+landing_content p (Some b) = landing_at_block p b (block_at p b)
 
 -- the node number n, which is no copy of a block; of a landing with the block of its call
 abbrev pub bare_content : Program → ℕ → Option BlockName → Content

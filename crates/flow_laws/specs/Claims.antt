@@ -1,19 +1,19 @@
--- What is claimed of a program's paths: they are its runs, an input drives one of them, and counts are bounded. This project's own; the
--- bounds on counts are those of implicit path enumeration (Li and Malik).
+-- What is claimed of a program's paths: they are its runs, an input drives one of them, and counts are bounded. This
+-- project's own; the bounds on counts are those of implicit path enumeration (Li and Malik).
 use Rattle.std.specs.Prelude.{◌≡◌, ℕ, List, ◌++◌, IsTrue}
 use Rattle.c_tree.specs.declared.program.BlockName.{BlockName}
 use Rattle.c_tree.specs.declared.program.Program.{Program}
 use Rattle.c_tree.specs.declared.program.Input.{Input}
 use Rattle.c_tree.specs.declared.program.Costs.{Costs}
-use Rattle.c_tree.specs.Runs.{Ended, fits, run}
-use Rattle.c_tree.specs.Claims.{cost}
+use Rattle.c_tree.specs.Meaning.Runs.{Ended, fits, run}
+use Rattle.c_tree.specs.Meaning.Claims.{trace_cost}
 use Rattle.flow_laws.specs.Graphs.{graph, edges}
 use Rattle.flow_laws.specs.Paths.{IsPath, price}
 use Rattle.flow_laws.specs.Driving.{Drives}
 
 -- the run of the input ends, and costs n
 abbrev pub EndsAt : Program → Costs → Input → ℕ → Type 0
-EndsAt p t i n = (u : List BlockName) × (run p i ≡ Ended u) × (cost t u ≡ n)
+EndsAt p t i n = (u : List BlockName) × (run p i ≡ Ended u) × (trace_cost t u ≡ n)
 
 -- the input drives a path
 pub record DrivesPath (p : Program) (i : Input) (q : List ℕ) : Type 0 where

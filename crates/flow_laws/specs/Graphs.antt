@@ -1,5 +1,27 @@
 -- The graph of a program: its nodes, its edges and its loop copies, by their numbers. This project's own.
-use Rattle.std.specs.Prelude.{ℕ, ◌+◌, ◌==◌, ◌&&◌, not, nat_lt, nat_le, Bool, false, if◌then◌else◌, List, [], ◌∷◌, ◌++◌, length, map, take, slice_get, Option, Some, None}
+use Rattle.std.specs.Prelude.{
+  ℕ,
+  ◌+◌,
+  ◌==◌,
+  ◌&&◌,
+  not,
+  nat_lt,
+  nat_le,
+  Bool,
+  false,
+  if◌then◌else◌,
+  List,
+  [],
+  ◌∷◌,
+  ◌++◌,
+  length,
+  map,
+  take,
+  slice_get,
+  Option,
+  Some,
+  None,
+}
 use Rattle.c_tree.specs.declared.program.Func.{Func}
 use Rattle.c_tree.specs.declared.program.Program.{Program}
 use Rattle.flow_laws.specs.declared.graph.Way.{Way}
@@ -7,7 +29,22 @@ use Rattle.flow_laws.specs.declared.graph.Way.TheVariants.{Next, True, False}
 use Rattle.flow_laws.specs.declared.graph.Edge.{Edge}
 use Rattle.flow_laws.specs.declared.graph.Node.{Node}
 use Rattle.flow_laws.specs.declared.graph.Loop.{Loop}
-use Rattle.flow_laws.specs.Sites.{LoopCopy, Content, Entry, Exit, Test, Missing, Site, Position, Copy, Targets, one, head, list_size, list_flow}
+use Rattle.flow_laws.specs.Sites.{
+  LoopCopy,
+  Content,
+  Entry,
+  Exit,
+  Test,
+  Missing,
+  Site,
+  Position,
+  Copy,
+  Targets,
+  one_end_site,
+  head,
+  list_size,
+  list_flow,
+}
 
 -- ---- sites
 
@@ -18,7 +55,13 @@ all_to n = record { next = n; breaks = n; continues = n; returns = n }
 -- the function number k over those above it
 abbrev pub copy_of : ℕ → Func → List Copy → Copy
 copy_of k f cs =
-    record { locals = f.locals; result = f.result; size = list_size cs f.body false; sites = λ chain scale n landing. list_flow cs (record { func = k; chain = chain; scale = scale }) f.body 0 n [] (all_to landing) }
+    record {
+      locals = f.locals;
+      result = f.result;
+      size = list_size cs f.body false;
+      sites = λ chain scale n landing.
+          list_flow cs (record { func = k; chain = chain; scale = scale }) f.body 0 n [] (all_to landing);
+    }
 
 -- each function, over those above it
 abbrev pub copies : List Copy → List Func → List Copy
@@ -31,8 +74,9 @@ outermost = record { func = 0; chain = []; scale = 1 }
 
 -- Entry 0, Exit 1, and the entry function's nodes
 abbrev pub sites_of : Option Copy → List Site
-sites_of None = one outermost Missing None 1 ∷ []
-sites_of (Some c) = one outermost Entry None (head c.size 2 1) ∷ (one outermost Exit None 1 ∷ c.sites [] 1 2 1)
+sites_of None = one_end_site outermost Missing None 1 ∷ []
+sites_of (Some c) = one_end_site outermost Entry None (head c.size 2 1) ∷ (one_end_site outermost Exit None 1
+    ∷ c.sites [] 1 2 1)
 
 unfoldable pub graph : Program → List Site
 graph p = sites_of (slice_get (copies [] p.funcs) p.entry)
@@ -88,7 +132,8 @@ abbrev pub positions : ℕ → (Edge → Bool) → List Edge → List ℕ
 positions i p [] = []
 positions i p (e ∷ q) = if p e then i ∷ positions (i + 1) p q else positions (i + 1) p q
 
--- `into` are the edges that lead into the loop from outside, `turn` is the `True` of its condition, which has that node's first number
+-- `into` are the edges that lead into the loop from outside, `turn` is the `True` of its condition, which has that
+-- node's first number
 abbrev pub loop_of : List Site → LoopCopy → Loop
 loop_of g l =
     record { bound = l.bound; into = positions 0 (enters l) (edges g); turn = first_out g l.test; at_end = l.at_end }

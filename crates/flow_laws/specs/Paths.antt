@@ -1,10 +1,37 @@
--- Paths as lists of edge numbers: which lists follow the edges, which keep a loop's bound, what they count and what they cost.
+-- Paths as lists of edge numbers: which lists follow the edges, which keep a loop's bound, what they count and what
+-- they cost.
 -- This project's own.
-use Rattle.std.specs.Prelude.{◌≡◌, ◌≤◌, ℕ, zero, suc, ◌+◌, ◌*◌, ◌-◌, ◌==◌, nat_lt, ◌&&◌, not, Bool, true, false, if◌then◌else◌, List, [], ◌∷◌, ◌++◌, slice_get, Option, Some, None, is_some}
+use Rattle.std.specs.Prelude.{
+  ◌≡◌,
+  ◌≤◌,
+  ℕ,
+  zero,
+  suc,
+  ◌+◌,
+  ◌*◌,
+  ◌-◌,
+  ◌==◌,
+  nat_lt,
+  ◌&&◌,
+  not,
+  Bool,
+  true,
+  false,
+  if◌then◌else◌,
+  List,
+  [],
+  ◌∷◌,
+  ◌++◌,
+  slice_get,
+  Option,
+  Some,
+  None,
+  is_some,
+}
 use Rattle.std.specs.List.{list_all}
 use Rattle.c_tree.specs.declared.program.BlockName.{BlockName}
 use Rattle.c_tree.specs.declared.program.Costs.{Costs}
-use Rattle.c_tree.specs.Claims.{block_cost}
+use Rattle.c_tree.specs.Meaning.Claims.{block_cost}
 use Rattle.flow_laws.specs.declared.graph.Edge.{Edge}
 use Rattle.flow_laws.specs.declared.graph.Loop.{Loop}
 use Rattle.flow_laws.specs.declared.graph.Way.{Way}
@@ -14,18 +41,18 @@ use Rattle.flow_laws.specs.Graphs.{edges}
 -- ---- following
 
 -- where an edge leads, if it is there and begins at the node n
-abbrev pub led_on : ℕ → Option Edge → (ℕ → Option ℕ) → Option ℕ
-led_on n None go = None
-led_on n (Some e) go = if e.from == n then go e.to else None
+abbrev pub end_node_on : ℕ → Option Edge → (ℕ → Option ℕ) → Option ℕ
+end_node_on n None go = None
+end_node_on n (Some e) go = if e.from == n then go e.to else None
 
 -- the node to which the edges lead from the node n, where each is there and begins where the one before ends
-abbrev pub led : List Edge → ℕ → List ℕ → Option ℕ
-led es n [] = Some n
-led es n (j ∷ q) = led_on n (slice_get es j) (λ m. led es m q)
+abbrev pub end_node : List Edge → ℕ → List ℕ → Option ℕ
+end_node es n [] = Some n
+end_node es n (j ∷ q) = end_node_on n (slice_get es j) (λ m. end_node es m q)
 
 -- the list names only edges, and is contiguous from Entry
 abbrev pub follows : List Edge → List ℕ → Bool
-follows es q = is_some (led es 0 q)
+follows es q = is_some (end_node es 0 q)
 
 -- the number is that of an edge that leaves the node
 abbrev pub IsEdgeFrom : List Edge → ℕ → ℕ → Type 0
@@ -37,7 +64,7 @@ LeavesBy es j way = (e : Edge) × (slice_get es j ≡ Some e) × (e.way ≡ way)
 
 -- it leads from Entry into Exit
 abbrev pub IsPath : List Edge → List ℕ → Type 0
-IsPath es q = led es 0 q ≡ Some 1
+IsPath es q = end_node es 0 q ≡ Some 1
 
 -- ---- counts
 
@@ -47,25 +74,25 @@ times p [] = 0
 times p (x ∷ q) = if p x then suc (times p q) else times p q
 
 -- how often the list has the edge number j
-abbrev pub count : List ℕ → ℕ → ℕ
-count q j = times (λ i. i == j) q
+abbrev pub edge_count : List ℕ → ℕ → ℕ
+edge_count q j = times (λ i. i == j) q
 
 -- the sum of the counts of some edges
 abbrev pub total : List ℕ → List ℕ → ℕ
 total q [] = 0
-total q (j ∷ js) = count q j + total q js
+total q (j ∷ js) = edge_count q j + total q js
 
 -- the same for the edges, of which the first has the number i, that have a property
 abbrev pub total_of : List ℕ → (Edge → Bool) → ℕ → List Edge → ℕ
 total_of q p i [] = 0
-total_of q p i (e ∷ es) = if p e then count q i + total_of q p (i + 1) es else total_of q p (i + 1) es
+total_of q p i (e ∷ es) = if p e then edge_count q i + total_of q p (i + 1) es else total_of q p (i + 1) es
 
 -- the counts of the edges that leave a node, and of those that lead to it
-abbrev pub leaving : List Edge → List ℕ → ℕ → ℕ
-leaving es q n = total_of q (λ e. e.from == n) 0 es
+abbrev pub leaving_count : List Edge → List ℕ → ℕ → ℕ
+leaving_count es q n = total_of q (λ e. e.from == n) 0 es
 
-abbrev pub arriving : List Edge → List ℕ → ℕ → ℕ
-arriving es q n = total_of q (λ e. e.to == n) 0 es
+abbrev pub arriving_count : List Edge → List ℕ → ℕ → ℕ
+arriving_count es q n = total_of q (λ e. e.to == n) 0 es
 
 -- the cap of an edge is that of its source
 abbrev pub cap_of : Option Site → ℕ
@@ -83,9 +110,9 @@ copy_caps (s ∷ g) = cap_of_copy s.node.block s.node.cap + copy_caps g
 
 -- ---- bounds of loops
 
-abbrev pub is_among : ℕ → List ℕ → Bool
-is_among j [] = false
-is_among j (i ∷ is) = if j == i then true else is_among j is
+abbrev pub is_in_list : ℕ → List ℕ → Bool
+is_in_list j [] = false
+is_in_list j (i ∷ is) = if j == i then true else is_in_list j is
 
 -- how often the condition of a loop may hold after each entry: the body of `do` was entered once before
 abbrev pub most_turns : Loop → ℕ
@@ -94,7 +121,8 @@ most_turns l = if l.at_end then l.bound - 1 else l.bound
 -- after each edge of `into`, up to the next one, there are at most so many edges of `turn`
 abbrev pub Keeps : Loop → List ℕ → Type 0
 Keeps l q =
-    (before between after : List ℕ) (j : ℕ) → q ≡ before ++ (j ∷ (between ++ after)) → is_among j l.into ≡ true → list_all (λ i. not (is_among i l.into)) between ≡ true → times (λ i. i == l.turn) between ≤ most_turns l
+    (before between after : List ℕ) (j : ℕ) → q ≡ before ++ (j ∷ (between ++ after)) → is_in_list j l.into ≡ true
+    → list_all (λ i. not (is_in_list i l.into)) between ≡ true → times (λ i. i == l.turn) between ≤ most_turns l
 
 abbrev pub KeepsEach : List Loop → List ℕ → Type 0
 KeepsEach [] q = Unit {0}
@@ -111,10 +139,11 @@ after_turn (Some (suc n)) go = go (Some n)
 abbrev pub keeps_from : {A : Type 0} → (A → Bool) → (A → Bool) → ℕ → Option ℕ → List A → Bool
 keeps_from en tu most left [] = true
 keeps_from en tu most left (e ∷ q) =
-    if en e then keeps_from en tu most (Some most) q else (if tu e then after_turn left (λ m. keeps_from en tu most m q) else keeps_from en tu most left q)
+    if en e then keeps_from en tu most (Some most) q
+    else (if tu e then after_turn left (λ m. keeps_from en tu most m q) else keeps_from en tu most left q)
 
 abbrev pub keeps : Loop → List ℕ → Bool
-keeps l q = keeps_from (λ j. is_among j l.into) (λ j. j == l.turn) (most_turns l) None q
+keeps l q = keeps_from (λ j. is_in_list j l.into) (λ j. j == l.turn) (most_turns l) None q
 
 -- the same for each loop
 abbrev pub keeps_each : List Loop → List ℕ → Bool
@@ -129,7 +158,7 @@ one_less (Some n) = Some (n - 1)
 
 abbrev pub turns_left_on : Loop → ℕ → Option ℕ → Option ℕ
 turns_left_on l j left =
-    if is_among j l.into then Some (most_turns l) else (if j == l.turn then one_less left else left)
+    if is_in_list j l.into then Some (most_turns l) else (if j == l.turn then one_less left else left)
 
 abbrev pub turns_left_from : Loop → Option ℕ → List ℕ → Option ℕ
 turns_left_from l left [] = left
@@ -144,7 +173,7 @@ has_turn (Some n) = nat_lt 0 n
 
 -- with these turns left, the edge keeps the loop's bound
 abbrev pub allows : Loop → ℕ → Option ℕ → Bool
-allows l j left = if is_among j l.into then true else (if j == l.turn then has_turn left else true)
+allows l j left = if is_in_list j l.into then true else (if j == l.turn then has_turn left else true)
 
 -- behind the list, it keeps the bound of each loop
 abbrev pub each_allows : List Loop → List ℕ → ℕ → Bool
@@ -176,7 +205,7 @@ price t g (j ∷ q) = edge_cost t g j + price t g q
 -- the same by counts: the sum of the edges' costs times their counts, where the first edge has the number i
 abbrev pub worth_of : Costs → List Site → List ℕ → ℕ → List Edge → ℕ
 worth_of t g q i [] = 0
-worth_of t g q i (e ∷ es) = cost_of_edge t g (Some e) * count q i + worth_of t g q (i + 1) es
+worth_of t g q i (e ∷ es) = cost_of_edge t g (Some e) * edge_count q i + worth_of t g q (i + 1) es
 
 abbrev pub worth : Costs → List Site → List ℕ → ℕ
 worth t g q = worth_of t g q 0 (edges g)

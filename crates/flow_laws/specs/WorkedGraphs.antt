@@ -7,7 +7,7 @@ use Rattle.c_tree.specs.declared.tree.Stmt.{Stmt}
 use Rattle.c_tree.specs.declared.tree.Stmt.TheVariants.{Call, Break, Continue, If, While, Do, For, Group}
 use Rattle.c_tree.specs.declared.program.BlockName.{BlockName}
 use Rattle.c_tree.specs.declared.program.Program.{Program}
-use Rattle.c_tree.specs.Worked.{num, local, sets, counts, declares, returns, func_of, main_of}
+use Rattle.c_tree.specs.Meaning.Worked.{num, local, sets, increment, declares, returns, int_func, main_of}
 use Rattle.flow_laws.specs.declared.graph.Way.TheVariants.{Next, True, False}
 use Rattle.flow_laws.specs.declared.graph.Edge.{Edge}
 use Rattle.flow_laws.specs.declared.graph.Loop.{Loop}
@@ -17,14 +17,14 @@ use Rattle.flow_laws.specs.Graphs.{leaves, graph, nodes}
 -- ---- parts
 
 -- the edges from a node by its three ends
-abbrev pub next : ℕ → ℕ → Edge
-next a b = leaves a Next b
+abbrev pub leaves_next : ℕ → ℕ → Edge
+leaves_next a b = leaves a Next b
 
-abbrev pub when : ℕ → ℕ → Edge
-when a b = leaves a True b
+abbrev pub leaves_true : ℕ → ℕ → Edge
+leaves_true a b = leaves a True b
 
-abbrev pub unless : ℕ → ℕ → Edge
-unless a b = leaves a False b
+abbrev pub leaves_false : ℕ → ℕ → Edge
+leaves_false a b = leaves a False b
 
 abbrev pub loop : ℕ → List ℕ → ℕ → Loop
 loop bound into turn = record { bound = bound; into = into; turn = turn; at_end = false }
@@ -74,7 +74,8 @@ empty_main = main_of 0 0 []
 -- `int main(int x) { if (x) { } x = 1; { x = 2; } x = 3; return x; x = 4; }`
 unfoldable pub groups_and_rest : Program
 groups_and_rest =
-    main_of 1 1 (If (local 0) [] [] ∷ sets 0 None (num 1) ∷ Group (sets 0 None (num 2) ∷ []) ∷ sets 0 None (num 3) ∷ returns (local 0) ∷ sets 0 None (num 4) ∷ [])
+    main_of 1 1 (If (local 0) [] [] ∷ sets 0 None (num 1) ∷ Group (sets 0 None (num 2) ∷ []) ∷ sets 0 None (num 3)
+    ∷ returns (local 0) ∷ sets 0 None (num 4) ∷ [])
 
 -- ---- loops
 
@@ -94,7 +95,7 @@ empty_do = main_of 1 1 (Do 3 [] (local 0) ∷ returns (num 0) ∷ [])
 -- `int main(int n) { do [3] do [2] n++; while (n < 5); while (n < 9); return n; }`
 unfoldable pub nested_do : Program
 nested_do =
-    let inner = Do 2 (counts 0 ∷ []) (Bin bin.Lt (local 0) (num 5)) in
+    let inner = Do 2 (increment 0 ∷ []) (Bin bin.Lt (local 0) (num 5)) in
     main_of 1 1 (Do 3 (inner ∷ []) (Bin bin.Lt (local 0) (num 9)) ∷ returns (local 0) ∷ [])
 
 -- `if (b) break; if (c) continue; d = 1;`
@@ -115,7 +116,7 @@ jumps_in_do = with_loop (Do 3 jumps (local 0))
 
 -- `for [3] (d = 0; a; d++) { JUMPS }`
 unfoldable pub jumps_in_for : Program
-jumps_in_for = with_loop (For 3 (Some (sets 3 None (num 0))) (local 0) (Some (counts 3)) jumps)
+jumps_in_for = with_loop (For 3 (Some (sets 3 None (num 0))) (local 0) (Some (increment 3)) jumps)
 
 -- `for [3] (; a; ) { JUMPS }`
 unfoldable pub jumps_without_step : Program
@@ -126,14 +127,16 @@ jumps_without_step = with_loop (For 3 None (local 0) None jumps)
 -- `int f(int v) { if (v) return v; } int main(int n) { int x = 0; x = f(n); return x; }`
 unfoldable pub end_is_reached : Program
 end_is_reached =
-    let f = func_of 1 1 (If (local 0) (returns (local 0) ∷ []) [] ∷ []) in
-    let main = func_of 1 2 (declares 1 (num 0) ∷ Call (target.Assign (Rattle.c_tree.specs.declared.tree.Var.TheVariants.Local 1)) 0 (local 0 ∷ []) ∷ returns (local 1) ∷ []) in
+    let f = int_func 1 1 (If (local 0) (returns (local 0) ∷ []) [] ∷ []) in
+    let main = int_func 1 2 (declares 1 (num 0)
+    ∷ Call (target.Assign (Rattle.c_tree.specs.declared.tree.Var.TheVariants.Local 1)) 0 (local 0 ∷ [])
+    ∷ returns (local 1) ∷ []) in
     record { globals = []; funcs = f ∷ main ∷ []; entry = 1 }
 
 -- `int g(void) { return 1; } int f(void) { g(); return 2; } int main(void) { while [4] (1) { f(); } return 0; }`
 unfoldable pub nested_calls : Program
 nested_calls =
-    let g = func_of 0 0 (returns (num 1) ∷ []) in
-    let f = func_of 0 0 (Call target.Nothing 0 [] ∷ returns (num 2) ∷ []) in
-    let main = func_of 0 0 (While 4 (num 1) (Call target.Nothing 1 [] ∷ []) ∷ returns (num 0) ∷ []) in
+    let g = int_func 0 0 (returns (num 1) ∷ []) in
+    let f = int_func 0 0 (Call target.Nothing 0 [] ∷ returns (num 2) ∷ []) in
+    let main = int_func 0 0 (While 4 (num 1) (Call target.Nothing 1 [] ∷ []) ∷ returns (num 0) ∷ []) in
     record { globals = []; funcs = g ∷ f ∷ main ∷ []; entry = 2 }

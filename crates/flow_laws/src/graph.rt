@@ -1,7 +1,7 @@
 //! The parts of a flat graph.
 
 ghost use Rattle.std.specs.Prelude.{◌≡◌};
-ghost use Rattle.flow_laws.specs.Paths.{is_among, most_turns};
+ghost use Rattle.flow_laws.specs.Paths.{is_in_list, most_turns};
 
 use c_tree::BlockName;
 use sqlite_items::Items;
@@ -24,8 +24,8 @@ pub struct Edge {
 
 /// A node. `block` is the block that it is a copy of; Entry, Exit and landings have none. `chain` has the call blocks
 /// in whose callees' copies it stands, outermost first. `cap` is its scale with calls inlined, which for Entry, Exit
-/// and landings is that of their place; no list that is contiguous from Entry and keeps the bounds of loops leaves it more
-/// often.
+/// and landings is that of their place; no list that is contiguous from Entry and keeps the bounds of loops leaves it
+/// more often.
 #[derive(Drop)]
 pub struct Node {
     pub block: Option<BlockName>,
@@ -59,7 +59,7 @@ impl Loop {
 
     /// Whether the edge is among `into`.
     pub fn is_entered_by(&self, edge: u16) -> bool
-        ensures { result ≡ is_among edge self.now.into }
+        ensures { result ≡ is_in_list edge self.now.into }
     {
         for other in self.into.as_slice() {
             if edge == *other {

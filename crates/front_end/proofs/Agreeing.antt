@@ -6,13 +6,13 @@ use Rattle.wc_outside.specs.Contents.{Files, OnFile}
 use Rattle.c_tree.specs.declared.unit.Unit.{Unit as Tree}
 use Rattle.c_tree.specs.declared.program.Program.{Program}
 use Rattle.c_tree.specs.declared.program.Costs.{Costs}
-use Rattle.c_tree.specs.Refusals as checking
-use Rattle.c_tree.specs.Refusals.{faults}
+use Rattle.c_tree.specs.Checking.Refusals as checking
+use Rattle.c_tree.specs.Checking.Refusals.{faults}
 use Rattle.c_faults.specs.Verdicts.{refusal_of}
 use Rattle.cost_table.specs.declared.fault.CostFault.{CostFault}
 use Rattle.cost_table.specs.Tables.{verdict}
 use Rattle.flow_laws.specs.Graphs.{graph}
-use Rattle.flow_graph.specs.Limits.{refusal as plan_refusal}
+use Rattle.flow_graph.specs.Limits.{size_fault as plan_refusal}
 use Rattle.front_end.specs.declared.refusal.ProgramRefusal.{ProgramRefusal}
 use Rattle.front_end.specs.declared.refusal.ProgramRefusal.TheVariants as text
 use Rattle.front_end.specs.declared.refusal.TableRefusal.{TableRefusal}
@@ -31,13 +31,13 @@ use Rattle.front_end.proofs.InFiles.{both, both_tables, parts}
 
 -- ---- programs
 
-no_fault : (u : Tree) (entry : List ℕ) (r : checking.Refusal) → faults u entry ≡ [] → Contains (faults u entry) r → ⊥
+no_fault : (u : Tree) (entry : List ℕ) (r : checking.PlacedFault) → faults u entry ≡ [] → Contains (faults u entry) r → ⊥
 no_fault u entry r none stands = nothing (subst (λ rs. Contains rs r) none stands)
   where
     nothing : Contains [] r → ⊥
     nothing h = absurd (omega (arith, h.1))
 
-typed_has_none : (bytes entry : List ℕ) (r : checking.Refusal) (p : Program) → HasFault bytes entry r → IsTextOf bytes entry p → ⊥
+typed_has_none : (bytes entry : List ℕ) (r : checking.PlacedFault) (p : Program) → HasFault bytes entry r → IsTextOf bytes entry p → ⊥
 typed_has_none bytes entry r p h of_text =
     let same = one_unit bytes of_text.unit h.unit of_text.read h.read in
     no_fault h.unit entry r (subst (λ w. faults w entry ≡ []) same of_text.typed.sound) h.refused.stands
@@ -95,10 +95,10 @@ too_large (Cap block) p h planned = let cap = h.1 in absurd (cc)
 
 -- what a refusal finds: no program; a program without an input; a program without costs; a program with costs, and no plan
 data Side (s : Source) (told : Option Files) (refusal : Refusal) : Type 0 where
-  Textless : status_of refusal ≡ status.Program → ((p : Program) → HasProgram s told p → ⊥) → Side s told refusal
-  Inputless : status_of refusal ≡ status.Words → (p : Program) → HasProgram s told p → (HasInput s.input p → ⊥) → Side s told refusal
-  Priceless : status_of refusal ≡ status.Costs → (p : Program) → IsReady s told p → ((t : Costs) → HasCosts s told p t → ⊥) → Side s told refusal
-  Planless : status_of refusal ≡ status.Program → (p : Program) (t : Costs) → IsReady s told p → HasCosts s told p t
+  NoText : status_of refusal ≡ status.Program → ((p : Program) → HasProgram s told p → ⊥) → Side s told refusal
+  NoInput : status_of refusal ≡ status.Words → (p : Program) → HasProgram s told p → (HasInput s.input p → ⊥) → Side s told refusal
+  NoCosts : status_of refusal ≡ status.Costs → (p : Program) → IsReady s told p → ((t : Costs) → HasCosts s told p t → ⊥) → Side s told refusal
+  NoPlan : status_of refusal ≡ status.Program → (p : Program) (t : Costs) → IsReady s told p → HasCosts s told p t
       → (plan_refusal (graph p) ≡ None → ⊥) → Side s told refusal
 
 textless : (refusal : ProgramRefusal) (s : Source) (told : Option Files) → IsSome told
@@ -108,10 +108,10 @@ textless refusal s told some h p program =
     no_text refusal on.0 s.entry p on.1 on.2
 
 side : (refusal : Refusal) (s : Source) (told : Option Files) → IsSome told → Refuses refusal s told → Side s told refusal
-side (by.Program r) s told some h = Textless refl (textless r s told some h)
-side by.Input s told some h = Inputless refl h.program h.text h.none
-side (by.Table r) s told some h = Priceless refl h.program h.ready (λ t priced. unpriced r s told h.program t some h.refused priced)
-side (by.Plan r) s told some h = Planless refl h.program h.costs h.ready h.priced (too_large r h.program h.refused)
+side (by.Program r) s told some h = NoText refl (textless r s told some h)
+side by.Input s told some h = NoInput refl h.program h.text h.none
+side (by.Table r) s told some h = NoCosts refl h.program h.ready (λ t priced. unpriced r s told h.program t some h.refused priced)
+side (by.Plan r) s told some h = NoPlan refl h.program h.costs h.ready h.priced (too_large r h.program h.refused)
 
 no_input : (s : Source) (told : Option Files) (p q : Program) → IsSome told → IsReady s told p → HasProgram s told q → (HasInput s.input q → ⊥) → ⊥
 no_input s told p q some ready has none = none (subst (HasInput s.input) (same_program s told p q some ready.text has) ready.input)
@@ -121,22 +121,22 @@ no_costs : (s : Source) (told : Option Files) (p q : Program) (t : Costs) → Is
 no_costs s told p q t some has has2 priced none = none t (subst (λ w. HasCosts s told w t) (same_program s told p q some has has2) priced)
 
 agree : (a b : Refusal) (s : Source) (told : Option Files) → IsSome told → Side s told a → Side s told b → status_of a ≡ status_of b
-agree a b s told some (Textless e none) (Textless e2 none2) = e ∙ sym e2
-agree a b s told some (Textless e none) (Inputless e2 q has2 lacks2) = absurd (none q has2)
-agree a b s told some (Textless e none) (Priceless e2 q ready2 lacks2) = absurd (none q ready2.text)
-agree a b s told some (Textless e none) (Planless e2 q u ready2 priced2 lacks2) = e ∙ sym e2
-agree a b s told some (Inputless e p has lacks) (Textless e2 none2) = absurd (none2 p has)
-agree a b s told some (Inputless e p has lacks) (Inputless e2 q has2 lacks2) = e ∙ sym e2
-agree a b s told some (Inputless e p has lacks) (Priceless e2 q ready2 lacks2) = absurd (no_input s told q p some ready2 has lacks)
-agree a b s told some (Inputless e p has lacks) (Planless e2 q u ready2 priced2 lacks2) = absurd (no_input s told q p some ready2 has lacks)
-agree a b s told some (Priceless e p ready lacks) (Textless e2 none2) = absurd (none2 p ready.text)
-agree a b s told some (Priceless e p ready lacks) (Inputless e2 q has2 lacks2) = absurd (no_input s told p q some ready has2 lacks2)
-agree a b s told some (Priceless e p ready lacks) (Priceless e2 q ready2 lacks2) = e ∙ sym e2
-agree a b s told some (Priceless e p ready lacks) (Planless e2 q u ready2 priced2 lacks2) = absurd (no_costs s told q p u some ready2.text ready.text priced2 lacks)
-agree a b s told some (Planless e p t ready priced lacks) (Textless e2 none2) = e ∙ sym e2
-agree a b s told some (Planless e p t ready priced lacks) (Inputless e2 q has2 lacks2) = absurd (no_input s told p q some ready has2 lacks2)
-agree a b s told some (Planless e p t ready priced lacks) (Priceless e2 q ready2 lacks2) = absurd (no_costs s told p q t some ready.text ready2.text priced lacks2)
-agree a b s told some (Planless e p t ready priced lacks) (Planless e2 q u ready2 priced2 lacks2) = e ∙ sym e2
+agree a b s told some (NoText e none) (NoText e2 none2) = e ∙ sym e2
+agree a b s told some (NoText e none) (NoInput e2 q has2 lacks2) = absurd (none q has2)
+agree a b s told some (NoText e none) (NoCosts e2 q ready2 lacks2) = absurd (none q ready2.text)
+agree a b s told some (NoText e none) (NoPlan e2 q u ready2 priced2 lacks2) = e ∙ sym e2
+agree a b s told some (NoInput e p has lacks) (NoText e2 none2) = absurd (none2 p has)
+agree a b s told some (NoInput e p has lacks) (NoInput e2 q has2 lacks2) = e ∙ sym e2
+agree a b s told some (NoInput e p has lacks) (NoCosts e2 q ready2 lacks2) = absurd (no_input s told q p some ready2 has lacks)
+agree a b s told some (NoInput e p has lacks) (NoPlan e2 q u ready2 priced2 lacks2) = absurd (no_input s told q p some ready2 has lacks)
+agree a b s told some (NoCosts e p ready lacks) (NoText e2 none2) = absurd (none2 p ready.text)
+agree a b s told some (NoCosts e p ready lacks) (NoInput e2 q has2 lacks2) = absurd (no_input s told p q some ready has2 lacks2)
+agree a b s told some (NoCosts e p ready lacks) (NoCosts e2 q ready2 lacks2) = e ∙ sym e2
+agree a b s told some (NoCosts e p ready lacks) (NoPlan e2 q u ready2 priced2 lacks2) = absurd (no_costs s told q p u some ready2.text ready.text priced2 lacks)
+agree a b s told some (NoPlan e p t ready priced lacks) (NoText e2 none2) = e ∙ sym e2
+agree a b s told some (NoPlan e p t ready priced lacks) (NoInput e2 q has2 lacks2) = absurd (no_input s told p q some ready has2 lacks2)
+agree a b s told some (NoPlan e p t ready priced lacks) (NoCosts e2 q ready2 lacks2) = absurd (no_costs s told p q t some ready.text ready2.text priced lacks2)
+agree a b s told some (NoPlan e p t ready priced lacks) (NoPlan e2 q u ready2 priced2 lacks2) = e ∙ sym e2
 
 -- all refusals of texts in files have one status
 pub one_status : (a b : Refusal) (s : Source) (told : Option Files) → IsSome told → Refuses a s told → Refuses b s told → status_of a ≡ status_of b
@@ -146,10 +146,10 @@ one_status a b s told some h k = agree a b s told some (side a s told some h) (s
 
 served_side : (refusal : Refusal) (s : Source) (told : Option Files) (p : Program) (t : Costs) → IsSome told → Side s told refusal
     → IsReady s told p → HasCosts s told p t → plan_refusal (graph p) ≡ None → ⊥
-served_side refusal s told p t some (Textless e none) ready priced planned = none p ready.text
-served_side refusal s told p t some (Inputless e q has lacks) ready priced planned = no_input s told p q some ready has lacks
-served_side refusal s told p t some (Priceless e q ready2 lacks) ready priced planned = no_costs s told p q t some ready.text ready2.text priced lacks
-served_side refusal s told p t some (Planless e q u ready2 priced2 lacks) ready priced planned =
+served_side refusal s told p t some (NoText e none) ready priced planned = none p ready.text
+served_side refusal s told p t some (NoInput e q has lacks) ready priced planned = no_input s told p q some ready has lacks
+served_side refusal s told p t some (NoCosts e q ready2 lacks) ready priced planned = no_costs s told p q t some ready.text ready2.text priced lacks
+served_side refusal s told p t some (NoPlan e q u ready2 priced2 lacks) ready priced planned =
     lacks (subst (λ w. plan_refusal (graph w) ≡ None) (same_program s told p q some ready.text ready2.text) planned)
 
 -- what is served is not refused

@@ -2,18 +2,12 @@
 use Rattle.std.proofs.Common.{◌≡◌, ℕ, zero, suc, ◌+◌, ◌≤◌, List, [], ◌∷◌, ◌++◌, length, take, drop, Option, Some, None, Result, Ok, Err, refl, sym, ◌∙◌, ap, subst, arith, length-append}
 use Rattle.std.specs.Prelude.{option_map, OnErr}
 use Rattle.wc_outside.specs.Growth.{Grew, GrewByPrefix}
-
-pub append_assoc : (a b c : List ℕ) → (a ++ b) ++ c ≡ a ++ (b ++ c)
-append_assoc [] b c = refl
-append_assoc (x ∷ a) b c = ap (λ l. x ∷ l) (append_assoc a b c)
+use Rattle.std.proofs.lemmas.List.{append_assoc}
+use Rattle.wc_outside.proofs.Writing.{Grew-append}
 
 twice : (old : Option (List ℕ)) (a b : List ℕ) → option_map (λ w. w ++ b) (option_map (λ w. w ++ a) old) ≡ option_map (λ w. w ++ (a ++ b)) old
 twice None a b = refl
 twice (Some w) a b = ap Some (append_assoc w a b)
-
--- two pieces are one
-pub grew_twice : (old mid new : Option (List ℕ)) (a b : List ℕ) → Grew old mid a → Grew mid new b → Grew old new (a ++ b)
-grew_twice old mid new a b h k = k ∙ (ap (option_map (λ w. w ++ b)) h ∙ twice old a b)
 
 take_front : (k : ℕ) (b rest : List ℕ) → k ≤ length b → take k (b ++ rest) ≡ take k b
 take_front zero b rest h = refl
@@ -32,7 +26,7 @@ pub grew_in_part : (old mid new : Option (List ℕ)) (a b rest : List ℕ) → G
 grew_in_part old mid new a b rest h k = record {
   count = length a + k.count;
   within = omega (arith, k.within, length-append a (b ++ rest), length-append b rest);
-  grew = subst (Grew old new) (sym (take_behind a (b ++ rest) k.count ∙ ap (λ l. a ++ l) (take_front k.count b rest k.within))) (grew_twice old mid new a (take k.count b) h k.grew);
+  grew = subst (Grew old new) (sym (take_behind a (b ++ rest) k.count ∙ ap (λ l. a ++ l) (take_front k.count b rest k.within))) (Grew-append old mid new a (take k.count b) h k.grew);
 }
 
 -- a text is its front, cut anywhere, and its back

@@ -5,8 +5,8 @@ use Rattle.wc_outside.specs.Contents.{Files, OnFile}
 use Rattle.c_tree.specs.declared.program.Program.{Program}
 use Rattle.c_tree.specs.declared.program.Costs.{Costs}
 use Rattle.flow_laws.specs.Graphs.{graph}
-use Rattle.flow_graph.specs.Limits.{refusal as plan_refusal}
-use Rattle.flow_graph.specs.Plans.{planned}
+use Rattle.flow_graph.specs.Limits.{size_fault as plan_refusal}
+use Rattle.flow_graph.specs.Plans.{plan_with}
 use Rattle.front_end.specs.declared.work.Front.{Front}
 use Rattle.front_end.specs.Accepted.{IsTextOf, ArePriced, Accepts}
 use Rattle.front_end.specs.Refusing.{IsInput}
@@ -74,7 +74,7 @@ parts s told p t some h =
 
 -- what was read and planned is what is asked for
 pub fronted : (s : Source) (told : Option Files) (front : Front) (p : Program) (t : Costs) → HasProgram s told p → HasCosts s told p t
-    → plan_refusal (graph p) ≡ None → front.plan ≡ planned p t → IsInput s.input p front.input → IsFront s told front
+    → plan_refusal (graph p) ≡ None → front.plan ≡ plan_with p t → IsInput s.input p front.input → IsFront s told front
 fronted s told front p t program costs plan same input = record {
   accepted = subst (λ q. AreAccepted s told q.program q.costs) (sym same) (accepted s told p t program costs plan);
   input = subst (λ q. IsInput s.input q.program front.input) (sym same) input;

@@ -3,8 +3,8 @@ use Rattle.std.proofs.Common.{◌≡◌, ℕ, List, Option, Some, None, Ok, sym,
 use Rattle.c_tree.specs.declared.unit.Unit.{Unit as Tree}
 use Rattle.c_tree.specs.declared.program.Program.{Program}
 use Rattle.c_tree.specs.declared.program.Costs.{Costs}
-use Rattle.c_tree.specs.Naming.{program_of}
-use Rattle.c_tree.specs.Spelling.{Spells}
+use Rattle.c_tree.specs.Checking.Naming.{program_of}
+use Rattle.c_tree.specs.Grammar.Spelling.{Spells}
 use Rattle.c_token.proofs.Answering.{lexed_once}
 use Rattle.parse_laws.proofs.Whole.{unique}
 use Rattle.cost_table.specs.Tables.{verdict}

@@ -3,9 +3,9 @@ use Rattle.std.proofs.Common.{◌≡◌, ◌≤◌, ℕ, ◌↔◌, List, length
 use Rattle.std.specs.Prelude.{IsOkAnd}
 use Rattle.c_tree.specs.declared.token.Token.{Token}
 use Rattle.c_tree.specs.declared.unit.Unit.{Unit as Tree}
-use Rattle.c_tree.specs.Heights.{unit_height}
-use Rattle.c_tree.specs.Lexing.{Lexes}
-use Rattle.c_tree.specs.Spelling.{Spells}
+use Rattle.c_tree.specs.Grammar.Heights.{unit_height}
+use Rattle.c_tree.specs.Tokens.Lexing.{Lexes}
+use Rattle.c_tree.specs.Grammar.Spelling.{Spells}
 use Rattle.c_token.specs.declared.fault.TokenFault.{TokenFault}
 use Rattle.c_token.specs.declared.fault.TokenFault.TheVariants as token
 use Rattle.c_token.specs.Faults.{HasStrayByte, HasOpenComment, HasBadNumber, HasBadDirective}

@@ -3,12 +3,12 @@ use Rattle.std.specs.Prelude.{◌≡◌, ◌≤◌, ℕ, List, length, Option, S
 use Rattle.c_tree.specs.declared.unit.Unit.{Unit as Tree}
 use Rattle.c_tree.specs.declared.program.Program.{Program}
 use Rattle.c_tree.specs.declared.program.Costs.{Costs}
-use Rattle.c_tree.specs.Checked.{IsUnitOf}
-use Rattle.c_tree.specs.Heights.{unit_height}
-use Rattle.c_tree.specs.Refusals.{Typed}
-use Rattle.cost_table.specs.Tables.{IsTable, plain}
+use Rattle.c_tree.specs.Checking.Checked.{IsUnitOf}
+use Rattle.c_tree.specs.Grammar.Heights.{unit_height}
+use Rattle.c_tree.specs.Checking.Refusals.{Typed}
+use Rattle.cost_table.specs.Tables.{IsTable, costs_of_one}
 use Rattle.flow_laws.specs.Graphs.{graph}
-use Rattle.flow_graph.specs.Limits.{refusal as plan_refusal}
+use Rattle.flow_graph.specs.Limits.{size_fault as plan_refusal}
 
 -- the text's tokens spell the unit, which is no higher than 128
 pub record IsRead (text : List ℕ) (unit : Tree) : Type 0 where
@@ -24,7 +24,7 @@ pub record IsTextOf (text entry : List ℕ) (program : Program) : Type 0 where
 
 -- the costs are those of the table, which has at most 1,048,576 bytes, or without one 1 everywhere
 abbrev pub ArePriced : Option (List ℕ) → Program → Costs → Type 0
-ArePriced None p t = t ≡ plain p
+ArePriced None p t = t ≡ costs_of_one p
 ArePriced (Some table) p t = (length table ≤ 1048576) × IsTable table p t
 
 -- the texts are accepted: the text of a program and the table, if there is one, are those of the program and the costs,

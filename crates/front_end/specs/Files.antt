@@ -3,7 +3,7 @@ use Rattle.std.specs.Prelude.{◌≡◌, ℕ, List, Option, Some, None, IsSomeAn
 use Rattle.wc_outside.specs.Contents.{Files, OnFile}
 use Rattle.c_tree.specs.declared.program.Program.{Program}
 use Rattle.c_tree.specs.declared.program.Costs.{Costs}
-use Rattle.flow_graph.specs.Plans.{planned}
+use Rattle.flow_graph.specs.Plans.{plan_with}
 use Rattle.front_end.specs.declared.refusal.Refusal.{Refusal}
 use Rattle.front_end.specs.declared.refusal.Refusal.TheVariants as by
 use Rattle.front_end.specs.declared.refusal.TableRefusal.{TableRefusal}

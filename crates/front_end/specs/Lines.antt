@@ -2,7 +2,7 @@
 use Rattle.std.specs.Prelude.{ℕ, List, ◌++◌, codes, decimal}
 use Rattle.c_faults.specs.declared.fault.Fault.{Fault}
 use Rattle.c_faults.specs.declared.fault.Fault.TheVariants as fault
-use Rattle.c_faults.specs.declared.fault.Refusal.{Refusal as CheckRefusal}
+use Rattle.c_faults.specs.declared.fault.CheckRefusal.{CheckRefusal}
 use Rattle.front_end.specs.declared.refusal.ProgramRefusal.{ProgramRefusal}
 use Rattle.front_end.specs.declared.refusal.ProgramRefusal.TheVariants as text
 use Rattle.front_end.specs.declared.refusal.TableRefusal.{TableRefusal}
@@ -65,8 +65,8 @@ plan_line Edges = codes "program plan Edges\n"
 plan_line (Cap block) = named_line (codes "program plan Cap ") block
 
 -- the line of a refusal
-abbrev pub line_of : Refusal → List ℕ
-line_of (by.Program refusal) = program_line refusal
-line_of by.Input = codes "input refused\n"
-line_of (by.Table refusal) = table_line refusal
-line_of (by.Plan refusal) = plan_line refusal
+abbrev pub refusal_line : Refusal → List ℕ
+refusal_line (by.Program refusal) = program_line refusal
+refusal_line by.Input = codes "input refused\n"
+refusal_line (by.Table refusal) = table_line refusal
+refusal_line (by.Plan refusal) = plan_line refusal

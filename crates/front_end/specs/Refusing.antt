@@ -6,9 +6,9 @@ use Rattle.c_tree.specs.declared.program.BlockName.{BlockName}
 use Rattle.c_tree.specs.declared.program.Func.{Func}
 use Rattle.c_tree.specs.declared.program.Program.{Program}
 use Rattle.c_tree.specs.declared.program.Input.{Input}
-use Rattle.c_tree.specs.Lexing.{Lexes}
-use Rattle.c_tree.specs.Refusals as checking
-use Rattle.c_tree.specs.Refusals.{IsRefused}
+use Rattle.c_tree.specs.Tokens.Lexing.{Lexes}
+use Rattle.c_tree.specs.Checking.Refusals as checking
+use Rattle.c_tree.specs.Checking.Refusals.{IsRefused}
 use Rattle.c_token.specs.Faults.{HasStrayByte, HasOpenComment, HasBadNumber, HasBadDirective}
 use Rattle.c_parse.specs.Answers.{IsPlace}
 use Rattle.c_faults.specs.Verdicts.{refusal_of}
@@ -18,7 +18,7 @@ use Rattle.cost_table.specs.declared.fault.CostFault.TheVariants as cost
 use Rattle.cost_table.specs.Tables.{verdict, block_name}
 use Rattle.flow_laws.specs.Graphs.{graph}
 use Rattle.flow_graph.specs.declared.fault.PlanFault.TheVariants as plan
-use Rattle.flow_graph.specs.Limits.{refusal as plan_refusal}
+use Rattle.flow_graph.specs.Limits.{size_fault as plan_refusal}
 use Rattle.front_end.specs.declared.refusal.ProgramRefusal.{ProgramRefusal}
 use Rattle.front_end.specs.declared.refusal.ProgramRefusal.TheVariants as text
 use Rattle.front_end.specs.declared.refusal.TableRefusal.{TableRefusal}
@@ -43,7 +43,7 @@ pub record HasNoUnit (bytes : List ℕ) (at : ℕ) : Type 0 where
   pub none : (unit : Tree) → ¬ (IsRead bytes unit)
 
 -- its unit has this fault with this entry, and none before it
-pub record HasFault (bytes entry : List ℕ) (fault : checking.Refusal) : Type 0 where
+pub record HasFault (bytes entry : List ℕ) (fault : checking.PlacedFault) : Type 0 where
   pub short : length bytes ≤ 1048576
   pub unit : Tree
   pub read : IsRead bytes unit
@@ -92,12 +92,12 @@ RefusesTable (table.Missing name) p bytes = HasTableFault p bytes (cost.Missing 
 -- ---- the plan
 
 -- the name of a block of a program
-abbrev pub func_name : Option Func → List ℕ
-func_name None = []
-func_name (Some f) = f.name
+abbrev pub block_func_name : Option Func → List ℕ
+block_func_name None = []
+block_func_name (Some f) = f.name
 
 abbrev pub name_of_block : Program → BlockName → List ℕ
-name_of_block p b = block_name (func_name (slice_get p.funcs b.func)) b.number
+name_of_block p b = block_name (block_func_name (slice_get p.funcs b.func)) b.number
 
 abbrev pub RefusesPlan : PlanRefusal → Program → Type 0
 RefusesPlan Blocks p = plan_refusal (graph p) ≡ Some plan.Blocks

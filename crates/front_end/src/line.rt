@@ -4,14 +4,14 @@ ghost use Rattle.std.specs.Prelude.{◌≡◌, IfOk};
 ghost use Rattle.front_end.specs.Lines as spec;
 
 use crate::refusal::{PlanRefusal, ProgramRefusal, Refusal, TableRefusal};
-use c_faults::{Fault, Refusal as CheckRefusal};
+use c_faults::{CheckRefusal, Fault};
 use c_tree::Name;
 use itoa::Buffer;
 use std::alloc::{AllocError, Global};
 
 /// The line of a refusal.
 pub(crate) fn line_of(alloc: Global, refusal: &Refusal) -> Result<Vec<u8>, AllocError>
-    ensures { IfOk result (λ line. line.items ≡ spec.line_of refusal.now) }
+    ensures { IfOk result (λ line. line.items ≡ spec.refusal_line refusal.now) }
 {
     match refusal {
         Refusal::Program(refusal) => program_line(alloc, refusal),

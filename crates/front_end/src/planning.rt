@@ -1,10 +1,10 @@
 //! From a program and its costs to its plan.
 
 ghost use Rattle.std.specs.Prelude.{◌≡◌, None, IfOk, IfErr, OnOk};
-ghost use Rattle.c_tree.specs.Claims.{AreCostsOf};
+ghost use Rattle.c_tree.specs.Meaning.Claims.{AreCostsOf};
 ghost use Rattle.flow_laws.specs.Graphs.{graph};
-ghost use Rattle.flow_graph.specs.Limits.{refusal as plan_refusal};
-ghost use Rattle.flow_graph.specs.Plans.{planned};
+ghost use Rattle.flow_graph.specs.Limits.{size_fault as plan_refusal};
+ghost use Rattle.flow_graph.specs.Plans.{plan_with};
 ghost use Rattle.front_end.specs.Refusing.{name_of_block, RefusesPlan};
 ghost use Rattle.front_end.specs.Halts.{IsStop};
 
@@ -22,7 +22,7 @@ pub(crate) fn plan_of(
     costs: Costs,
 ) -> Result<Plan, Stop<PlanRefusal>>
     requires costed { AreCostsOf program costs }
-    ensures plan { IfOk result (λ p. p ≡ planned program costs) }
+    ensures plan { IfOk result (λ p. p ≡ plan_with program costs) }
     ensures whole { OnOk result (plan_refusal (graph program) ≡ None) }
     ensures stopped { IfErr result (λ stop. IsStop stop (λ r. RefusesPlan r program)) }
 {

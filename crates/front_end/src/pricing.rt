@@ -1,7 +1,7 @@
 //! The costs of a program's blocks.
 
 ghost use Rattle.std.specs.Prelude.{◌≡◌, ◌≤◌, length, IfOk, IfErr};
-ghost use Rattle.c_tree.specs.Claims.{AreCostsOf};
+ghost use Rattle.c_tree.specs.Meaning.Claims.{AreCostsOf};
 ghost use Rattle.cost_table.specs.Tables.{IsTable};
 ghost use Rattle.front_end.specs.Refusing.{RefusesTable};
 ghost use Rattle.front_end.specs.Halts.{IsStop, table_stop};

@@ -3,11 +3,11 @@
 ghost use Rattle.std.specs.Prelude.{◌≡◌, ◌≤◌, List, ℕ, All, length, option_map, IfOk, IfErr};
 ghost use Rattle.c_tree.specs.declared.token.Token.{Token};
 ghost use Rattle.c_tree.specs.declared.unit.Unit.{Unit as Tree};
-ghost use Rattle.c_tree.specs.Lexing.{Lexes};
-ghost use Rattle.c_tree.specs.Checked.{IsSpelled};
+ghost use Rattle.c_tree.specs.Tokens.Lexing.{Lexes};
+ghost use Rattle.c_tree.specs.Checking.Checked.{IsSpelled};
 ghost use Rattle.c_parse.specs.Lexeme.{IsWithin};
 ghost use Rattle.c_faults.specs.Verdicts.{refusal_of};
-ghost use Rattle.c_check.specs.Answers.{told};
+ghost use Rattle.c_check.specs.Answers.{fault_and_place};
 ghost use Rattle.front_end.specs.Accepted.{IsRead, IsTextOf};
 ghost use Rattle.front_end.specs.Refusing.{RefusesText};
 ghost use Rattle.front_end.specs.Halts.{IsStop, token_stop, parse_stop};
@@ -15,7 +15,7 @@ ghost use Rattle.front_end.specs.Halts.{IsStop, token_stop, parse_stop};
 use crate::refusal::ProgramRefusal;
 use crate::stop::Stop;
 use c_check::{CheckFault, check};
-use c_faults::{Fault, Refusal as CheckRefusal};
+use c_faults::{CheckRefusal, Fault};
 use c_parse::{ParseFault, ordered_tokens_are_within, parse};
 use c_token::{TokenFault, tokens};
 use c_tree::{Program, Token, Unit};
@@ -43,7 +43,7 @@ pub(crate) fn program_of(
 
 // The fault of a unit; want of memory is none.
 fn first_fault(fault: CheckFault) -> Option<CheckRefusal>
-    ensures { option_map refusal_of result ≡ told fault }
+    ensures { option_map refusal_of result ≡ fault_and_place fault }
 {
     let (fault, at) = match fault {
         CheckFault::NoName { at } => (Fault::NoName, at),

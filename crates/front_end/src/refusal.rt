@@ -4,7 +4,7 @@ ghost use Rattle.std.specs.Prelude.{◌≡◌};
 ghost use Rattle.front_end.specs.Statuses.{status_of};
 
 use crate::Status;
-use c_faults::Refusal as CheckRefusal;
+use c_faults::CheckRefusal;
 use c_tree::Name;
 
 /// Why the text of a program is refused, in the order in which it is looked at. Places are offsets in the text.

@@ -2,7 +2,7 @@
 
 ghost use Rattle.std.specs.Prelude.{◌≡◌, ◌≤◌, length, IfOk, IfErr};
 ghost use Rattle.wc_outside.specs.Contents.{OnFile};
-ghost use Rattle.c_tree.specs.Claims.{AreCostsOf};
+ghost use Rattle.c_tree.specs.Meaning.Claims.{AreCostsOf};
 ghost use Rattle.front_end.specs.Files.{source_of, HasProgram, HasCosts, IsReady, IsFront};
 ghost use Rattle.front_end.specs.Refusing.{IsInput};
 ghost use Rattle.front_end.specs.Halts.{IsFileHalt, IsInputHalt, IsHalt, Counts};

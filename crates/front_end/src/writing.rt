@@ -3,7 +3,7 @@
 ghost use Rattle.std.specs.Prelude.{◌≡◌, ◌≢◌, ◌≤◌, ◌<◌, ℕ, length, OnOk, OnErr};
 ghost use Rattle.wc_outside.specs.Causes.{Rose, HasCause};
 ghost use Rattle.wc_outside.specs.Growth.{Grew, GrewByPrefix};
-ghost use Rattle.front_end.specs.Lines.{line_of};
+ghost use Rattle.front_end.specs.Lines.{refusal_line};
 ghost use Rattle.front_end.specs.Statuses.{status_of};
 
 use crate::line::line_of;
@@ -45,9 +45,9 @@ pub fn put_lines<K: Sink>(out: &mut K, text: &[u8]) -> Result<(), Failed>
 /// before anything is written.
 pub fn refuse<K: Sink>(alloc: Global, out: &mut K, refusal: &Refusal) -> Status
     ensures told { result ≢ Status.WriteFault → result ≢ Status.NoMemory
-        → (result ≡ status_of refusal.now) × Grew (K.written out.old) (K.written out.new) (line_of refusal.now) }
+        → (result ≡ status_of refusal.now) × Grew (K.written out.old) (K.written out.new) (refusal_line refusal.now) }
     ensures part { result ≡ Status.WriteFault
-        → GrewByPrefix (K.written out.old) (K.written out.new) (line_of refusal.now)
+        → GrewByPrefix (K.written out.old) (K.written out.new) (refusal_line refusal.now)
         × Rose (K.faults out.old) (K.faults out.new) }
     ensures memory { result ≡ Status.NoMemory → K.written out.new ≡ K.written out.old }
     ensures refused { result ≢ Status.Whole × result ≢ Status.ReadFault × result ≢ Status.Inexact }

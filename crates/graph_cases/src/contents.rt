@@ -4,8 +4,8 @@ ghost use Rattle.std.specs.Prelude.{◌≡◌};
 
 use crate::graphs::block;
 use crate::lists::push_apart;
-use crate::wrong::Wrong;
 use c_tree::{BlockName, Ty};
+use case_plans::Wrong;
 use flow_graph::Plan;
 use node_contents::{Content, Contents, contents_of};
 use std::alloc::{AllocError, Global};

@@ -1,8 +1,8 @@
 //! Edges that leave nodes, where loop copies stand, calls of landings, and what edges do to loops.
 
 use crate::lists::push_apart;
-use crate::wrong::Wrong;
 use c_tree::BlockName;
+use case_plans::Wrong;
 use flow_graph::{Outs, Plan, Span, Touch};
 use std::alloc::{AllocError, Global};
 

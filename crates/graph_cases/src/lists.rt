@@ -1,6 +1,6 @@
 //! Lists on one line.
 
-use crate::wrong::Wrong;
+use case_plans::Wrong;
 use std::alloc::{AllocError, Global};
 
 /// The most edges of a list that is shown whole.

@@ -10,24 +10,22 @@
 //! - `contents`: what each node does: how many simple statements; of a call how many locals the callee has and how many
 //!   arguments are given; of a landing the type of the result and the block of the call;
 //! - `list ## TEXT ## EDGES`: whether the edges follow the plan, and whether they keep the loops' bounds;
-//! - `extend ## TEXT ## EDGES ## ROOM ## LIMITS`: how the list goes on with this room for each edge, but for those of the
-//!   limits, each an edge, `:` and its room. Of a list of more than 24 edges the answer has the count.
+//! - `extend ## TEXT ## EDGES ## ROOM ## LIMITS`: how the list goes on with this room for each edge, but for those of
+//! the limits, each an edge, `:` and its room. Of a list of more than 24 edges the answer has the count.
 #![tactic(auto)]
 
 mod case;
 mod contents;
 mod graphs;
 mod lists;
-mod reading;
 mod walks;
-mod wrong;
 
 use case::Case;
 use case_lines::{is_heading, parts};
+use case_plans::{Wrong, plain_plan_of};
 use flow_graph::Plan;
 use std::alloc::{AllocError, Global};
 use std::io;
-use wrong::Wrong;
 
 fn main(rt: HostRuntime) -> io::Result<()> {
     for line in rt.lines(rt.alloc()) {
@@ -53,7 +51,7 @@ fn answer(alloc: Global, line: &str) -> Result<String, AllocError> {
 }
 
 fn answered(alloc: Global, case: &Case) -> Result<String, Wrong> {
-    match reading::plan_of(alloc, case.text) {
+    match plain_plan_of(alloc, case.text) {
         Ok(plan) => told(alloc, case, &plan),
         Err(wrong) => Err(wrong),
     }

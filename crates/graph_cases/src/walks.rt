@@ -5,7 +5,7 @@ ghost use Rattle.flow_laws.specs.Graphs.{graph, edges};
 
 use crate::case::Case;
 use crate::lists::{edge, edges, room, shown};
-use crate::wrong::Wrong;
+use case_plans::Wrong;
 use flow_graph::Plan;
 use path_walk::{Next, extend};
 use sqlite_items::Items;

@@ -8,14 +8,14 @@ use Rattle.c_tree.specs.declared.tree.Stmt.{Stmt}
 use Rattle.c_tree.specs.declared.tree.Stmt.TheVariants.{Empty, Scalar, Array, Assign, Call, Break, Continue, Return, If, While, Do, For, Group}
 use Rattle.c_tree.specs.declared.tree.Stmt.TheBlock.{shape-the_row-Stmt-0, hidden-the_row-Stmt-0, shape-the_row-Stmt-1, hidden-the_row-Stmt-1, back-Stmt-For-1}
 use denote.Hole.Carrier.{hidden}
-use Rattle.c_tree.specs.Blocks.{is_simple}
+use Rattle.c_tree.specs.Meaning.Blocks.{is_simple}
 use Rattle.graph_lists.specs.declared.sizes.Weights.{Weights}
-use Rattle.graph_lists.specs.Amounts.{plus, begun_amount, call_amount, amount, row_amount, part_amount, list_amount, held_amount}
+use Rattle.graph_lists.specs.Amounts.{capped_sum, begun_amount, call_amount, amount, row_amount, part_amount, list_amount, held_amount}
 
 pub row_is : (v : Weights) (ds : List ℕ) (xs : List Stmt) (run : Bool) → row_amount v ds (hidden-the_row-Stmt-0 xs) run ≡ list_amount v ds xs run
 unfolding amount row_amount shape-the_row-Stmt-0 hidden-the_row-Stmt-0 hidden
 row_is v ds [] run = refl
-row_is v ds (x ∷ xs) run = ap (plus (amount v ds x run)) (row_is v ds xs (is_simple x))
+row_is v ds (x ∷ xs) run = ap (capped_sum (amount v ds x run)) (row_is v ds xs (is_simple x))
 
 pub held_is : (v : Weights) (ds : List ℕ) (o : Option Stmt) → part_amount v ds (back-Stmt-For-1 o) ≡ held_amount v ds o
 unfolding amount row_amount part_amount shape-the_row-Stmt-1 hidden-the_row-Stmt-1 hidden
@@ -54,21 +54,21 @@ pub amount-Return : (v : Weights) (ds : List ℕ) (e : Option Expr) (run : Bool)
 unfolding amount
 amount-Return v ds e run = refl
 
-pub amount-If : (v : Weights) (ds : List ℕ) (e : Expr) (xs ys : List Stmt) (run : Bool) → amount v ds (If e xs ys) run ≡ plus v.test (plus (list_amount v ds xs false) (list_amount v ds ys false))
+pub amount-If : (v : Weights) (ds : List ℕ) (e : Expr) (xs ys : List Stmt) (run : Bool) → amount v ds (If e xs ys) run ≡ capped_sum v.test (capped_sum (list_amount v ds xs false) (list_amount v ds ys false))
 unfolding amount
-amount-If v ds e xs ys run = λ i. plus v.test (plus (row_is v ds xs false i) (row_is v ds ys false i))
+amount-If v ds e xs ys run = λ i. capped_sum v.test (capped_sum (row_is v ds xs false i) (row_is v ds ys false i))
 
-pub amount-While : (v : Weights) (ds : List ℕ) (k : ℕ) (e : Expr) (xs : List Stmt) (run : Bool) → amount v ds (While k e xs) run ≡ plus v.test (list_amount v ds xs false)
+pub amount-While : (v : Weights) (ds : List ℕ) (k : ℕ) (e : Expr) (xs : List Stmt) (run : Bool) → amount v ds (While k e xs) run ≡ capped_sum v.test (list_amount v ds xs false)
 unfolding amount
-amount-While v ds k e xs run = λ i. plus v.test (row_is v ds xs false i)
+amount-While v ds k e xs run = λ i. capped_sum v.test (row_is v ds xs false i)
 
-pub amount-Do : (v : Weights) (ds : List ℕ) (k : ℕ) (xs : List Stmt) (e : Expr) (run : Bool) → amount v ds (Do k xs e) run ≡ plus v.test (list_amount v ds xs false)
+pub amount-Do : (v : Weights) (ds : List ℕ) (k : ℕ) (xs : List Stmt) (e : Expr) (run : Bool) → amount v ds (Do k xs e) run ≡ capped_sum v.test (list_amount v ds xs false)
 unfolding amount
-amount-Do v ds k xs e run = λ i. plus v.test (row_is v ds xs false i)
+amount-Do v ds k xs e run = λ i. capped_sum v.test (row_is v ds xs false i)
 
-pub amount-For : (v : Weights) (ds : List ℕ) (k : ℕ) (a j : Option Stmt) (e : Expr) (xs : List Stmt) (run : Bool) → amount v ds (For k a e j xs) run ≡ plus (held_amount v ds a) (plus v.test (plus (held_amount v ds j) (list_amount v ds xs false)))
+pub amount-For : (v : Weights) (ds : List ℕ) (k : ℕ) (a j : Option Stmt) (e : Expr) (xs : List Stmt) (run : Bool) → amount v ds (For k a e j xs) run ≡ capped_sum (held_amount v ds a) (capped_sum v.test (capped_sum (held_amount v ds j) (list_amount v ds xs false)))
 unfolding amount
-amount-For v ds k a j e xs run = λ i. plus (held_is v ds a i) (plus v.test (plus (held_is v ds j i) (row_is v ds xs false i)))
+amount-For v ds k a j e xs run = λ i. capped_sum (held_is v ds a i) (capped_sum v.test (capped_sum (held_is v ds j i) (row_is v ds xs false i)))
 
 pub amount-Group : (v : Weights) (ds : List ℕ) (xs : List Stmt) (run : Bool) → amount v ds (Group xs) run ≡ list_amount v ds xs false
 unfolding amount

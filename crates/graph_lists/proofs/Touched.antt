@@ -2,7 +2,7 @@
 use Rattle.std.proofs.Common.{◌≡◌, ◌<◌, ◌≤◌, ℕ, zero, suc, ◌+◌, Bool, true, false, if◌then◌else◌, List, [], ◌∷◌, ◌++◌, length, length-append, drop, get_or, append_assoc, replicate, Option, Some, None, refl, sym, ap, ◌∙◌, arith}
 use Rattle.std.specs.Prelude.{◌==◌, ◌&&◌, nat_lt, slice_get, slice_set}
 use Rattle.std.specs.List.{list_all}
-use Rattle.std.proofs.lemmas.Bool.{lt-ltb, ltb-true, ltb-false, eqb-true, eq-eqb, ne_eqb}
+use Rattle.std.proofs.lemmas.Bool.{lt-ltb, ltb-true, ltb-false, eqb-true, eq-eqb, ne_eqb, and_from}
 use Rattle.std.proofs.lemmas.List.{length-map, get_or-set_other}
 use Rattle.std.proofs.lemmas.Option.{slice_get-get_or}
 use Rattle.std.proofs.lemmas.Grind.{get_or-set_at}
@@ -10,10 +10,11 @@ use Rattle.flow_laws.specs.declared.graph.Edge.{Edge}
 use Rattle.flow_laws.specs.declared.graph.Loop.{Loop}
 use Rattle.flow_laws.specs.Sites.{Content, Entry, Exit, Simple, Test, Jump, Give, Enter, Missing, Land, Site}
 use Rattle.flow_laws.specs.Graphs.{edges, edges_from, outs, loops, loops_at, loop_copies, loop_of}
-use Rattle.flow_laws.specs.Paths.{is_among, most_turns, after_turn, keeps_from, keeps, keeps_each}
+use Rattle.flow_laws.specs.Paths.{is_in_list, most_turns, after_turn, keeps_from, keeps, keeps_each}
 use Rattle.graph_lists.specs.declared.touch.Touch.{Touch}
 use Rattle.graph_lists.specs.declared.touch.Touch.TheVariants.{Enters, Turns}
-use Rattle.graph_lists.specs.Touches.{with_touch, touches_of, all_touches, is_low, are_low, Counters, none_entered, counters, put, on_turn, touched, kept_on, kept_row, kept_by}
+use Rattle.graph_lists.specs.Touches.{with_touch, touches_of, all_touches, is_low, are_low, Counters, none_entered, counters, with_turns_left, on_turn, is_kept_at, is_kept_over, is_kept_by_row, is_kept_by}
+use Rattle.plain_laws.proofs.Booleans.{and-false}
 
 -- ---- what a pass leaves alone
 
@@ -37,57 +38,53 @@ pub touches_from : (k : ℕ) (ls : List Loop) (j : ℕ) → From k (touches_of k
 touches_from k [] j = tt
 touches_from k (l ∷ ls) j =
     let rest = from_more k (k + 1) (touches_of (k + 1) ls j) (omega arith) (touches_from (k + 1) ls j) in
-    from_with k k l j (touches_of (k + 1) ls j) (omega arith) rest (is_among j l.into) (j == l.turn)
+    from_with k k l j (touches_of (k + 1) ls j) (omega arith) rest (is_in_list j l.into) (j == l.turn)
 
-and_false : (b : Bool) → (b && false) ≡ false
-and_false true = refl
-and_false false = refl
-
-put_off : (left : Counters) (k j : ℕ) (n : Option ℕ) → k < j → put left j n k ≡ left k
+put_off : (left : Counters) (k j : ℕ) (n : Option ℕ) → k < j → with_turns_left left j n k ≡ left k
 put_off left k j n lt = ap (λ b. if b then n else left k) (ne_eqb k j (λ e. omega (arith, lt, e)))
 
-put_on : (left : Counters) (k : ℕ) (n : Option ℕ) → put left k n k ≡ n
+put_on : (left : Counters) (k : ℕ) (n : Option ℕ) → with_turns_left left k n k ≡ n
 put_on left k n = ap (λ b. if b then n else left k) (eq-eqb k k refl)
 
 -- what is said of the counter of an earlier loop can be said before
-apart : (k : ℕ) (ts : List Touch) → From (k + 1) ts → (f : Option ℕ → Bool) (go : Counters → Bool) (left : Counters) → kept_on ts left (λ m. f (m k) && go m) ≡ (f (left k) && kept_on ts left go)
+apart : (k : ℕ) (ts : List Touch) → From (k + 1) ts → (f : Option ℕ → Bool) (go : Counters → Bool) (left : Counters) → is_kept_over ts left (λ m. f (m k) && go m) ≡ (f (left k) && is_kept_over ts left go)
 apart k [] h f go left = refl
 apart k (Enters j n ∷ ts) h f go left =
-    apart k ts h.1 f go (put left j (Some n)) ∙ ap (λ y. f y && kept_on ts (put left j (Some n)) go) (put_off left k j (Some n) (omega (arith, h.0)))
+    apart k ts h.1 f go (with_turns_left left j (Some n)) ∙ ap (λ y. f y && is_kept_over ts (with_turns_left left j (Some n)) go) (put_off left k j (Some n) (omega (arith, h.0)))
 apart k (Turns j ∷ ts) h f go left = by (apart k ts h.1 f go) (left j)
   where
-    by : ((m : Counters) → kept_on ts m (λ m. f (m k) && go m) ≡ (f (m k) && kept_on ts m go)) → (o : Option ℕ) → on_turn o (kept_on ts left (λ m. f (m k) && go m)) (λ n. kept_on ts (put left j (Some n)) (λ m. f (m k) && go m)) ≡ (f (left k) && on_turn o (kept_on ts left go) (λ n. kept_on ts (put left j (Some n)) go))
+    by : ((m : Counters) → is_kept_over ts m (λ m. f (m k) && go m) ≡ (f (m k) && is_kept_over ts m go)) → (o : Option ℕ) → on_turn o (is_kept_over ts left (λ m. f (m k) && go m)) (λ n. is_kept_over ts (with_turns_left left j (Some n)) (λ m. f (m k) && go m)) ≡ (f (left k) && on_turn o (is_kept_over ts left go) (λ n. is_kept_over ts (with_turns_left left j (Some n)) go))
     by next None = next left
-    by next (Some zero) = sym (and_false (f (left k)))
+    by next (Some zero) = sym (and-false (f (left k)))
     by next (Some (suc n)) =
-        next (put left j (Some n)) ∙ ap (λ y. f y && kept_on ts (put left j (Some n)) go) (put_off left k j (Some n) (omega (arith, h.0)))
+        next (with_turns_left left j (Some n)) ∙ ap (λ y. f y && is_kept_over ts (with_turns_left left j (Some n)) go) (put_off left k j (Some n) (omega (arith, h.0)))
 
 -- the same of what no counter tells
-aside : (ts : List Touch) (b : Bool) (go : Counters → Bool) (left : Counters) → kept_on ts left (λ m. b && go m) ≡ (b && kept_on ts left go)
+aside : (ts : List Touch) (b : Bool) (go : Counters → Bool) (left : Counters) → is_kept_over ts left (λ m. b && go m) ≡ (b && is_kept_over ts left go)
 aside ts true go left = refl
 aside [] false go left = refl
-aside (Enters j n ∷ ts) false go left = aside ts false go (put left j (Some n))
+aside (Enters j n ∷ ts) false go left = aside ts false go (with_turns_left left j (Some n))
 aside (Turns j ∷ ts) false go left = by (aside ts false go) (left j)
   where
-    by : ((m : Counters) → kept_on ts m (λ m. false && go m) ≡ (false && kept_on ts m go)) → (o : Option ℕ) → on_turn o (kept_on ts left (λ m. false && go m)) (λ n. kept_on ts (put left j (Some n)) (λ m. false && go m)) ≡ false
+    by : ((m : Counters) → is_kept_over ts m (λ m. false && go m) ≡ (false && is_kept_over ts m go)) → (o : Option ℕ) → on_turn o (is_kept_over ts left (λ m. false && go m)) (λ n. is_kept_over ts (with_turns_left left j (Some n)) (λ m. false && go m)) ≡ false
     by next None = next left
     by next (Some zero) = refl
-    by next (Some (suc n)) = next (put left j (Some n))
+    by next (Some (suc n)) = next (with_turns_left left j (Some n))
 
 -- ---- the loops, of which the first has the number k, each by its counter
 
 abbrev keeps_left : Loop → Option ℕ → List ℕ → Bool
-keeps_left l left q = keeps_from (λ j. is_among j l.into) (λ j. j == l.turn) (most_turns l) left q
+keeps_left l left q = keeps_from (λ j. is_in_list j l.into) (λ j. j == l.turn) (most_turns l) left q
 
 abbrev each_left : ℕ → List Loop → Counters → List ℕ → Bool
 each_left k [] left q = true
 each_left k (l ∷ ls) left q = keeps_left l (left k) q && each_left (k + 1) ls left q
 
 -- earlier counters do not matter
-unseen : (k i : ℕ) (ls : List Loop) (left : Counters) (n : Option ℕ) (q : List ℕ) → i < k → each_left k ls (put left i n) q ≡ each_left k ls left q
+unseen : (k i : ℕ) (ls : List Loop) (left : Counters) (n : Option ℕ) (q : List ℕ) → i < k → each_left k ls (with_turns_left left i n) q ≡ each_left k ls left q
 unseen k i [] left n q lt = refl
 unseen k i (l ∷ ls) left n q lt =
-    let off : put left i n k ≡ left k = ap (λ b. if b then n else left k) (ne_eqb k i (λ e. omega (arith, lt, e))) in
+    let off : with_turns_left left i n k ≡ left k = ap (λ b. if b then n else left k) (ne_eqb k i (λ e. omega (arith, lt, e))) in
     λ z. keeps_left l (off z) q && unseen (k + 1) i ls left n q (omega (arith, lt)) z
 
 no_loops : (k : ℕ) (left : Counters) (ls : List Loop) → each_left k ls left [] ≡ true
@@ -101,13 +98,13 @@ none_is k (l ∷ ls) q = ap (λ y. keeps l q && y) (none_is (k + 1) ls q)
 -- one edge more, at one loop and the later ones
 abbrev Rest : ℕ → List Loop → ℕ → List ℕ → Type 0
 Rest k ls j q =
-    (left : Counters) → each_left k ls left (j ∷ q) ≡ kept_on (touches_of k ls j) left (λ m. each_left k ls m q)
+    (left : Counters) → each_left k ls left (j ∷ q) ≡ is_kept_over (touches_of k ls j) left (λ m. each_left k ls m q)
 
 abbrev step_left : Bool → Bool → Loop → Option ℕ → List ℕ → Bool
 step_left en tu l left q =
     if en then keeps_left l (Some (most_turns l)) q else (if tu then after_turn left (λ m. keeps_left l m q) else keeps_left l left q)
 
-one_step : (k : ℕ) (l : Loop) (ls : List Loop) (j : ℕ) (q : List ℕ) → Rest (k + 1) ls j q → (en tu : Bool) (left : Counters) → (step_left en tu l (left k) q && each_left (k + 1) ls left (j ∷ q)) ≡ kept_on (with_touch (if en then Some (Enters k (most_turns l)) else (if tu then Some (Turns k) else None)) (touches_of (k + 1) ls j)) left (λ m. keeps_left l (m k) q && each_left (k + 1) ls m q)
+one_step : (k : ℕ) (l : Loop) (ls : List Loop) (j : ℕ) (q : List ℕ) → Rest (k + 1) ls j q → (en tu : Bool) (left : Counters) → (step_left en tu l (left k) q && each_left (k + 1) ls left (j ∷ q)) ≡ is_kept_over (with_touch (if en then Some (Enters k (most_turns l)) else (if tu then Some (Turns k) else None)) (touches_of (k + 1) ls j)) left (λ m. keeps_left l (m k) q && each_left (k + 1) ls m q)
 one_step k l ls j q rest en tu left = by en tu
   where
     ts : List Touch
@@ -120,27 +117,27 @@ one_step k l ls j q rest en tu left = by en tu
     go m = each_left (k + 1) ls m q
 
     -- with this counter of the loop, the later loops are as before
-    at : (n : Option ℕ) → (f n && each_left (k + 1) ls left (j ∷ q)) ≡ kept_on ts (put left k n) (λ m. f (m k) && go m)
+    at : (n : Option ℕ) → (f n && each_left (k + 1) ls left (j ∷ q)) ≡ is_kept_over ts (with_turns_left left k n) (λ m. f (m k) && go m)
     at n =
-        let same = sym (unseen (k + 1) k ls left n (j ∷ q) (omega arith)) ∙ rest (put left k n) in
-        (λ z. f (sym (put_on left k n) z) && same z) ∙ sym (apart k ts (touches_from (k + 1) ls j) f go (put left k n))
+        let same = sym (unseen (k + 1) k ls left n (j ∷ q) (omega arith)) ∙ rest (with_turns_left left k n) in
+        (λ z. f (sym (put_on left k n) z) && same z) ∙ sym (apart k ts (touches_from (k + 1) ls j) f go (with_turns_left left k n))
 
-    alone : (f (left k) && each_left (k + 1) ls left (j ∷ q)) ≡ kept_on ts left (λ m. f (m k) && go m)
+    alone : (f (left k) && each_left (k + 1) ls left (j ∷ q)) ≡ is_kept_over ts left (λ m. f (m k) && go m)
     alone = ap (λ y. f (left k) && y) (rest left) ∙ sym (apart k ts (touches_from (k + 1) ls j) f go left)
 
-    turn : (o : Option ℕ) → left k ≡ o → (after_turn o f && each_left (k + 1) ls left (j ∷ q)) ≡ on_turn o (kept_on ts left (λ m. f (m k) && go m)) (λ n. kept_on ts (put left k (Some n)) (λ m. f (m k) && go m))
+    turn : (o : Option ℕ) → left k ≡ o → (after_turn o f && each_left (k + 1) ls left (j ∷ q)) ≡ on_turn o (is_kept_over ts left (λ m. f (m k) && go m)) (λ n. is_kept_over ts (with_turns_left left k (Some n)) (λ m. f (m k) && go m))
     turn None is = ap (λ y. f y && each_left (k + 1) ls left (j ∷ q)) (sym is) ∙ alone
     turn (Some zero) is = refl
     turn (Some (suc n)) is = at (Some n)
 
-    by : (en tu : Bool) → (step_left en tu l (left k) q && each_left (k + 1) ls left (j ∷ q)) ≡ kept_on (with_touch (if en then Some (Enters k (most_turns l)) else (if tu then Some (Turns k) else None)) ts) left (λ m. f (m k) && go m)
+    by : (en tu : Bool) → (step_left en tu l (left k) q && each_left (k + 1) ls left (j ∷ q)) ≡ is_kept_over (with_touch (if en then Some (Enters k (most_turns l)) else (if tu then Some (Turns k) else None)) ts) left (λ m. f (m k) && go m)
     by true tu = at (Some (most_turns l))
     by false true = turn (left k) refl
     by false false = alone
 
 one_more : (k : ℕ) (ls : List Loop) (j : ℕ) (q : List ℕ) → Rest k ls j q
 one_more k [] j q left = refl
-one_more k (l ∷ ls) j q left = one_step k l ls j q (one_more (k + 1) ls j q) (is_among j l.into) (j == l.turn) left
+one_more k (l ∷ ls) j q left = one_step k l ls j q (one_more (k + 1) ls j q) (is_in_list j l.into) (j == l.turn) left
 
 -- ---- the table
 
@@ -176,29 +173,26 @@ no_row ls i (e ∷ es) (suc j) ge = no_row ls (i + 1) es j (below (nat_lt j (len
         let more : nat_lt (suc j) (length (e ∷ es)) ≡ true = lt-ltb (suc j) (length (e ∷ es)) (omega (arith, lt)) in
         absurd (cc)
 
-kept_left : (ls : List Loop) (es : List Edge) (q : List ℕ) (left : Counters) → kept_by (all_touches ls 0 es) left q ≡ (list_all (λ j. nat_lt j (length es)) q && each_left 0 ls left q)
+kept_left : (ls : List Loop) (es : List Edge) (q : List ℕ) (left : Counters) → is_kept_by (all_touches ls 0 es) left q ≡ (list_all (λ j. nat_lt j (length es)) q && each_left 0 ls left q)
 kept_left ls es [] left = sym (no_loops 0 left ls)
 kept_left ls es (j ∷ q) left = by (kept_left ls es q) (nat_lt j (length es)) refl
   where
     all : Bool
     all = list_all (λ i. nat_lt i (length es)) q
 
-    by : ((m : Counters) → kept_by (all_touches ls 0 es) m q ≡ (all && each_left 0 ls m q)) → (b : Bool) → nat_lt j (length es) ≡ b → kept_by (all_touches ls 0 es) left (j ∷ q) ≡ ((nat_lt j (length es) && all) && each_left 0 ls left (j ∷ q))
+    by : ((m : Counters) → is_kept_by (all_touches ls 0 es) m q ≡ (all && each_left 0 ls m q)) → (b : Bool) → nat_lt j (length es) ≡ b → is_kept_by (all_touches ls 0 es) left (j ∷ q) ≡ ((nat_lt j (length es) && all) && each_left 0 ls left (j ∷ q))
     by next false is =
-        ap (λ r. kept_row r left (λ m. kept_by (all_touches ls 0 es) m q)) (no_row ls 0 es j is) ∙ ap (λ b. (b && all) && each_left 0 ls left (j ∷ q)) (sym is)
+        ap (λ r. is_kept_by_row r left (λ m. is_kept_by (all_touches ls 0 es) m q)) (no_row ls 0 es j is) ∙ ap (λ b. (b && all) && each_left 0 ls left (j ∷ q)) (sym is)
     by next true is =
         let z : 0 + j ≡ j = omega arith in
         let row = row_at ls 0 es j is ∙ ap (λ n. Some (touches_of 0 ls n)) z in
-        ap (λ r. kept_row r left (λ m. kept_by (all_touches ls 0 es) m q)) row ∙ (λ i. kept_on (touches_of 0 ls j) left (λ m. next m i)) ∙ aside (touches_of 0 ls j) all (λ m. each_left 0 ls m q) left ∙ ap (λ y. all && y) (sym (one_more 0 ls j q left)) ∙ ap (λ b. (b && all) && each_left 0 ls left (j ∷ q)) (sym is)
+        ap (λ r. is_kept_by_row r left (λ m. is_kept_by (all_touches ls 0 es) m q)) row ∙ (λ i. is_kept_over (touches_of 0 ls j) left (λ m. next m i)) ∙ aside (touches_of 0 ls j) all (λ m. each_left 0 ls m q) left ∙ ap (λ y. all && y) (sym (one_more 0 ls j q left)) ∙ ap (λ b. (b && all) && each_left 0 ls left (j ∷ q)) (sym is)
 
-pub kept_is : (ls : List Loop) (es : List Edge) (q : List ℕ) → kept_by (all_touches ls 0 es) none_entered q ≡ (list_all (λ j. nat_lt j (length es)) q && keeps_each ls q)
+pub kept_is : (ls : List Loop) (es : List Edge) (q : List ℕ) → is_kept_by (all_touches ls 0 es) none_entered q ≡ (list_all (λ j. nat_lt j (length es)) q && keeps_each ls q)
 kept_is ls es q =
     kept_left ls es q none_entered ∙ ap (λ y. list_all (λ j. nat_lt j (length es)) q && y) (none_is 0 ls q)
 
 -- ---- the loops' numbers are low
-
-and_from : (x y : Bool) → x ≡ true → y ≡ true → (x && y) ≡ true
-and_from x y h k = λ i. h i && k i
 
 low_with : (k : ℕ) (l : Loop) (ts : List Touch) → k < 1024 → are_low ts ≡ true → (en tu : Bool) → are_low (with_touch (if en then Some (Enters k (most_turns l)) else (if tu then Some (Turns k) else None)) ts) ≡ true
 low_with k l ts lt h true tu = and_from (nat_lt k 1024) (are_low ts) (lt-ltb k 1024 lt) h
@@ -208,7 +202,7 @@ low_with k l ts lt h false false = h
 row_low : (k : ℕ) (ls : List Loop) (j : ℕ) → k + length ls ≤ 1024 → are_low (touches_of k ls j) ≡ true
 row_low k [] j le = refl
 row_low k (l ∷ ls) j le =
-    low_with k l (touches_of (k + 1) ls j) (omega (arith, le)) (row_low (k + 1) ls j (omega (arith, le))) (is_among j l.into) (j == l.turn)
+    low_with k l (touches_of (k + 1) ls j) (omega (arith, le)) (row_low (k + 1) ls j (omega (arith, le))) (is_in_list j l.into) (j == l.turn)
 
 pub all_low : (ls : List Loop) (j : ℕ) (es : List Edge) → length ls ≤ 1024 → list_all are_low (all_touches ls j es) ≡ true
 all_low ls j [] le = refl
@@ -247,7 +241,7 @@ set_one left k j n lt true is = get_or-set_at left k j n None (eqb-true j k is) 
 set_one left k j n lt false is =
     get_or-set_other left k j n None (λ e. let on = eq-eqb j k e in let no : true ≡ false = sym on ∙ is in absurd (cc))
 
-pub set_is : (left : List (Option ℕ)) (k : ℕ) (n : Option ℕ) → k < length left → counters (slice_set left k n) ≡ put (counters left) k n
+pub set_is : (left : List (Option ℕ)) (k : ℕ) (n : Option ℕ) → k < length left → counters (slice_set left k n) ≡ with_turns_left (counters left) k n
 set_is left k n lt = λ i j. set_one left k j n lt (j == k) refl i
 
 -- the number of a touch is a place in the array
@@ -281,9 +275,9 @@ some_rest (x ∷ xs) (suc i) d lt =
     let z : suc i + 1 ≡ suc (i + 1) = omega arith in
     some_rest xs i d (omega (arith, lt)) ∙ ap (λ m. get_or xs i d ∷ drop m (x ∷ xs)) (sym z)
 
-pub keep_step : (ts : List Touch) (i : ℕ) (d : Touch) (old new : Counters) (r : Bool) → i < length ts → ((go : Counters → Bool) → touched (get_or ts i d) old go ≡ (r && go new)) → r ≡ true → (go : Counters → Bool) → kept_on (drop i ts) old go ≡ kept_on (drop (i + 1) ts) new go
+pub keep_step : (ts : List Touch) (i : ℕ) (d : Touch) (old new : Counters) (r : Bool) → i < length ts → ((go : Counters → Bool) → is_kept_at (get_or ts i d) old go ≡ (r && go new)) → r ≡ true → (go : Counters → Bool) → is_kept_over (drop i ts) old go ≡ is_kept_over (drop (i + 1) ts) new go
 keep_step ts i d old new r lt h is go =
-    ap (λ y. kept_on y old go) (some_rest ts i d lt) ∙ h (λ m. kept_on (drop (i + 1) ts) m go) ∙ ap (λ b. b && kept_on (drop (i + 1) ts) new go) is
+    ap (λ y. is_kept_over y old go) (some_rest ts i d lt) ∙ h (λ m. is_kept_over (drop (i + 1) ts) m go) ∙ ap (λ b. b && is_kept_over (drop (i + 1) ts) new go) is
 
 none_at : (n j : ℕ) → counters (replicate n None) j ≡ None
 none_at zero j = refl
@@ -293,8 +287,8 @@ none_at (suc n) (suc j) = none_at n j
 pub none_all : (n : ℕ) → counters (replicate n None) ≡ none_entered
 none_all n = λ i j. none_at n j i
 
-pub list_step : (table : List (List Touch)) (left : Counters) (list : List ℕ) (i : ℕ) → i < length list → kept_by table left (drop i list) ≡ kept_row (slice_get table (get_or list i 0)) left (λ m. kept_by table m (drop (i + 1) list))
-list_step table left list i lt = ap (λ y. kept_by table left y) (some_rest list i 0 lt)
+pub list_step : (table : List (List Touch)) (left : Counters) (list : List ℕ) (i : ℕ) → i < length list → is_kept_by table left (drop i list) ≡ is_kept_by_row (slice_get table (get_or list i 0)) left (λ m. is_kept_by table m (drop (i + 1) list))
+list_step table left list i lt = ap (λ y. is_kept_by table left y) (some_rest list i 0 lt)
 
 pub got_row : (table : List (List Touch)) (j : ℕ) (row : List Touch) → true ≡ nat_lt j (length table) → row ≡ get_or table j row → slice_get table j ≡ Some row
 got_row table j row lt is = slice_get-get_or table j row (ltb-true j (length table) (sym lt)) ∙ ap Some (sym is)

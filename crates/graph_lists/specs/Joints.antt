@@ -1,5 +1,22 @@
 -- Edges, loop copies and the first cap above a limit, of nodes as they are laid out. This project's own.
-use Rattle.std.specs.Prelude.{ℕ, ◌+◌, ◌==◌, ◌&&◌, not, Bool, List, [], ◌∷◌, ◌++◌, length, Option, Some, None, nat_lt, if◌then◌else◌}
+use Rattle.std.specs.Prelude.{
+  ℕ,
+  ◌+◌,
+  ◌==◌,
+  ◌&&◌,
+  not,
+  Bool,
+  List,
+  [],
+  ◌∷◌,
+  ◌++◌,
+  length,
+  Option,
+  Some,
+  None,
+  nat_lt,
+  if◌then◌else◌,
+}
 use Rattle.c_tree.specs.declared.program.BlockName.{BlockName}
 use Rattle.flow_laws.specs.declared.graph.Way.TheVariants.{Next, True, False}
 use Rattle.flow_laws.specs.declared.graph.Edge.{Edge}
@@ -29,7 +46,12 @@ abbrev pub turn_enters : Turn → Edge → Bool
 turn_enters l e = e.to == l.from && not (is_in l.from l.past e.from)
 
 abbrev pub turn_loop : List Edge → ℕ → Turn → Loop
-turn_loop es first l = record { bound = l.bound; into = positions 0 (turn_enters l) es; turn = first; at_end = l.at_end }
+turn_loop es first l = record {
+  bound = l.bound;
+  into = positions 0 (turn_enters l) es;
+  turn = first;
+  at_end = l.at_end;
+}
 
 -- the loop of a condition, whose first edge has this number
 abbrev pub ends_loops : List Edge → ℕ → Ends → List Loop

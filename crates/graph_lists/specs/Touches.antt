@@ -1,9 +1,28 @@
 -- The loops that each edge enters or turns, and what a list does to a counter for each loop. This project's own.
-use Rattle.std.specs.Prelude.{ℕ, zero, suc, ◌+◌, ◌==◌, nat_lt, Bool, true, false, if◌then◌else◌, List, [], ◌∷◌, Option, Some, None, slice_get, slice_index_or}
+use Rattle.std.specs.Prelude.{
+  ℕ,
+  zero,
+  suc,
+  ◌+◌,
+  ◌==◌,
+  nat_lt,
+  Bool,
+  true,
+  false,
+  if◌then◌else◌,
+  List,
+  [],
+  ◌∷◌,
+  Option,
+  Some,
+  None,
+  slice_get,
+  slice_index_or,
+}
 use Rattle.std.specs.List.{list_all}
 use Rattle.flow_laws.specs.declared.graph.Edge.{Edge}
 use Rattle.flow_laws.specs.declared.graph.Loop.{Loop}
-use Rattle.flow_laws.specs.Paths.{is_among, most_turns}
+use Rattle.flow_laws.specs.Paths.{is_in_list, most_turns}
 use Rattle.graph_lists.specs.declared.touch.Touch.{Touch}
 use Rattle.graph_lists.specs.declared.touch.Touch.TheVariants.{Enters, Turns}
 
@@ -12,7 +31,7 @@ use Rattle.graph_lists.specs.declared.touch.Touch.TheVariants.{Enters, Turns}
 -- what the edge number j does to the loop of the number k
 abbrev pub touch_of : ℕ → Loop → ℕ → Option Touch
 touch_of k l j =
-    if is_among j l.into then Some (Enters k (most_turns l)) else (if j == l.turn then Some (Turns k) else None)
+    if is_in_list j l.into then Some (Enters k (most_turns l)) else (if j == l.turn then Some (Turns k) else None)
 
 abbrev pub with_touch : Option Touch → List Touch → List Touch
 with_touch None ts = ts
@@ -48,8 +67,8 @@ none_entered k = None
 abbrev pub counters : List (Option ℕ) → Counters
 counters left k = slice_index_or left k None
 
-abbrev pub put : Counters → ℕ → Option ℕ → Counters
-put left k n j = if j == k then n else left j
+abbrev pub with_turns_left : Counters → ℕ → Option ℕ → Counters
+with_turns_left left k n j = if j == k then n else left j
 
 -- of a loop that was not entered a turn says nothing
 abbrev pub on_turn : Option ℕ → Bool → (ℕ → Bool) → Bool
@@ -57,19 +76,19 @@ on_turn None same fewer = same
 on_turn (Some zero) same fewer = false
 on_turn (Some (suc n)) same fewer = fewer n
 
-abbrev pub touched : Touch → Counters → (Counters → Bool) → Bool
-touched (Enters k n) left go = go (put left k (Some n))
-touched (Turns k) left go = on_turn (left k) (go left) (λ n. go (put left k (Some n)))
+abbrev pub is_kept_at : Touch → Counters → (Counters → Bool) → Bool
+is_kept_at (Enters k n) left go = go (with_turns_left left k (Some n))
+is_kept_at (Turns k) left go = on_turn (left k) (go left) (λ n. go (with_turns_left left k (Some n)))
 
-abbrev pub kept_on : List Touch → Counters → (Counters → Bool) → Bool
-kept_on [] left go = go left
-kept_on (t ∷ ts) left go = touched t left (λ m. kept_on ts m go)
+abbrev pub is_kept_over : List Touch → Counters → (Counters → Bool) → Bool
+is_kept_over [] left go = go left
+is_kept_over (t ∷ ts) left go = is_kept_at t left (λ m. is_kept_over ts m go)
 
-abbrev pub kept_row : Option (List Touch) → Counters → (Counters → Bool) → Bool
-kept_row None left go = false
-kept_row (Some ts) left go = kept_on ts left go
+abbrev pub is_kept_by_row : Option (List Touch) → Counters → (Counters → Bool) → Bool
+is_kept_by_row None left go = false
+is_kept_by_row (Some ts) left go = is_kept_over ts left go
 
 -- whether the list names only edges of the table, and no loop turns when no turn is left of it
-abbrev pub kept_by : List (List Touch) → Counters → List ℕ → Bool
-kept_by table left [] = true
-kept_by table left (j ∷ q) = kept_row (slice_get table j) left (λ m. kept_by table m q)
+abbrev pub is_kept_by : List (List Touch) → Counters → List ℕ → Bool
+is_kept_by table left [] = true
+is_kept_by table left (j ∷ q) = is_kept_by_row (slice_get table j) left (λ m. is_kept_by table m q)

@@ -2,7 +2,15 @@
 
 ghost use Rattle.std.specs.Prelude.{◌≡◌, ◌<◌, ◌≤◌, ◌^◌, ◌++◌, ◌∷◌, [], length, IfOk};
 ghost use Rattle.flow_laws.specs.Graphs.{positions};
-ghost use Rattle.graph_lists.specs.Joints.{outs_of, spot_edges, turn_enters, turn_loop, ends_loops, spot_loops, spot_above};
+ghost use Rattle.graph_lists.specs.Joints.{
+  outs_of,
+  spot_edges,
+  turn_enters,
+  turn_loop,
+  ends_loops,
+  spot_loops,
+  spot_above,
+};
 
 use crate::spot::{Ends, Spot, Turn};
 use c_tree::{BlockName, NoMemory};

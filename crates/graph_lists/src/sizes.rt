@@ -2,7 +2,15 @@
 //! last number, so that a program whose calls inline without bound is measured in time linear in its text.
 
 ghost use Rattle.std.specs.Prelude.{◌≡◌, IfOk, false, []};
-ghost use Rattle.graph_lists.specs.Amounts.{plus, amount, list_amount, held_amount, begun_amount, call_amount, amounts};
+ghost use Rattle.graph_lists.specs.Amounts.{
+  capped_sum,
+  amount,
+  list_amount,
+  held_amount,
+  begun_amount,
+  call_amount,
+  amounts,
+};
 
 use c_semantics::is_simple;
 use c_tree::{Func, NoMemory, Stmt};

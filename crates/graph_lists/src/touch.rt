@@ -11,9 +11,9 @@ ghost use Rattle.graph_lists.specs.Touches.{
   touch_of,
   touches_of,
   all_touches,
-  touched,
-  kept_on,
-  kept_by,
+  is_kept_at,
+  is_kept_over,
+  is_kept_by,
 };
 
 use c_tree::NoMemory;
@@ -79,7 +79,7 @@ fn touch_of(number: u16, l: &Loop, edge: u16) -> Option<Touch>
 /// before the loop is first entered.
 pub fn keeps_all(touches: &[Items<Touch>], list: &[u16]) -> bool
     requires { list_all are_low touches.now ≡ true }
-    ensures { result ≡ kept_by touches.now none_entered list.now }
+    ensures { result ≡ is_kept_by touches.now none_entered list.now }
 {
     let mut left: [Option<u32>; MOST_LOOPS] = [None; MOST_LOOPS];
     for number in list {
@@ -95,7 +95,8 @@ pub fn keeps_all(touches: &[Items<Touch>], list: &[u16]) -> bool
 
 fn keep_each(row: &[Touch], left: &mut [Option<u32>; MOST_LOOPS]) -> bool
     requires { are_low row.now ≡ true }
-    ensures { (go : Counters → Bool) → kept_on row.now (counters left.old) go ≡ (result && go (counters left.new)) }
+    ensures { (go : Counters → Bool) → is_kept_over row.now (counters left.old) go ≡ (result && go (counters left.new))
+        }
 {
     for touch in row {
         if !keep(*touch, left) {
@@ -107,7 +108,7 @@ fn keep_each(row: &[Touch], left: &mut [Option<u32>; MOST_LOOPS]) -> bool
 
 fn keep(touch: Touch, left: &mut [Option<u32>; MOST_LOOPS]) -> bool
     requires { is_low touch ≡ true }
-    ensures { (go : Counters → Bool) → touched touch (counters left.old) go ≡ (result && go (counters left.new)) }
+    ensures { (go : Counters → Bool) → is_kept_at touch (counters left.old) go ≡ (result && go (counters left.new)) }
 {
     match touch {
         Touch::Enters(number, turns) => {

@@ -12,7 +12,7 @@ use Rattle.ipet_peak.specs.declared.pieces.Piece.{Piece}
 use Rattle.ipet_peak.specs.declared.pieces.Piece.TheVariants as piece
 use Rattle.peak_laws.specs.Parts.{Part, Nothing, Block, Then, Choice, While, Do, Body}
 use Rattle.peak_laws.specs.Magnitudes.{cap_cost}
-use Rattle.peak_laws.specs.ProgramParts.{is_nothing, sequence, list_part, costs_in, func_part, parts, entry_part}
+use Rattle.peak_laws.specs.ProgramParts.{is_nothing, sequence, list_part, costs_in, func_part, function_parts, entry_part}
 use Rattle.ipet_peak.specs.Pieces.{last_part, earlier_parts, part_at, stack_after_piece, stack_after, parts_with, parts_made, MakeOneEach, stack_cost, parts_above}
 use Rattle.ipet_peak.specs.Trees.{part_of, KeepsWays, IsTreeOf, stack_onto, parts_of, EachKeepsWays, Makes}
 use Rattle.ipet_peak.proofs.PartLayers.{stack_after_append}
@@ -194,7 +194,7 @@ one_next : (qs : List Part) (xss : List (List Piece)) (xs : List Piece) → Make
 one_next qs [] xs h k = (k, tt)
 one_next qs (ys ∷ xss) xs h k = (h.0, one_next (qs ++ last_part (stack_after qs ys []) ∷ []) xss xs h.1 k)
 
-parts_next : (t : Costs) (qs : List Part) (fs : List Func) (f : Func) → parts t qs (fs ++ f ∷ []) ≡ parts t qs fs ++ func_part t (length (parts t qs fs)) f (parts t qs fs) ∷ []
+parts_next : (t : Costs) (qs : List Part) (fs : List Func) (f : Func) → function_parts t qs (fs ++ f ∷ []) ≡ function_parts t qs fs ++ func_part t (length (function_parts t qs fs)) f (function_parts t qs fs) ∷ []
 parts_next t qs [] f = refl
 parts_next t qs (g ∷ fs) f = parts_next t (qs ++ func_part t (length qs) g qs ∷ []) fs f
 

@@ -7,26 +7,17 @@ use Rattle.c_tree.specs.declared.tree.Stmt.{Stmt}
 use Rattle.c_tree.specs.declared.tree.Stmt.TheVariants.{Call, Break, Continue, Return, If, While, Do, For, Group}
 use Rattle.c_tree.specs.declared.tree.Stmt.TheBlock.{shape-the_row-Stmt-0, hidden-the_row-Stmt-0, shape-the_row-Stmt-1, hidden-the_row-Stmt-1, back-Stmt-For-1}
 use denote.Hole.Carrier.{hidden}
-use Rattle.c_tree.specs.Blocks.{is_simple, blocks, row_blocks, held_blocks, list_blocks}
-use Rattle.c_tree.specs.Statements.{held}
+use Rattle.c_tree.specs.Meaning.Blocks.{is_simple, blocks, row_blocks, held_blocks, list_blocks}
+use Rattle.c_tree.specs.Meaning.Statements.{held_stmts}
 use Rattle.peak_laws.specs.declared.ways.Leaving.TheVariants as leaving
 use Rattle.peak_laws.specs.Parts as spec
 use Rattle.peak_laws.specs.ProgramParts.{sequence, call_part, held_step, step_part, part, row_part, held_part, list_part}
 use Rattle.ipet_peak.specs.Pieces.{stack_after_piece, stack_after}
 use Rattle.ipet_peak.specs.declared.pieces.Piece.{Piece}
-use Rattle.peak_laws.proofs.Programs.{row_parts}
+use Rattle.peak_laws.proofs.GraphParts.Programs.{row_parts}
+use Rattle.c_tree.proofs.Layers.ExecLayers.{row_is, held_is}
 
-row_is : (xs : List Stmt) (run : Bool) → row_blocks (hidden-the_row-Stmt-0 xs) run ≡ list_blocks xs run
-unfolding blocks row_blocks shape-the_row-Stmt-0 hidden-the_row-Stmt-0 hidden
-row_is [] run = refl
-row_is (x ∷ xs) run = ap (λ n. blocks x run + n) (row_is xs (is_simple x))
-
-held_is : (o : Option Stmt) → held_blocks (back-Stmt-For-1 o) ≡ list_blocks (held o) false
-unfolding blocks row_blocks held_blocks shape-the_row-Stmt-1 hidden-the_row-Stmt-1 hidden
-held_is None = refl
-held_is (Some a) = refl
-
-held_parts : (qs : List spec.Part) (cost : ℕ → ℕ) (o : Option Stmt) (b : ℕ) → held_part qs cost (back-Stmt-For-1 o) b ≡ list_part qs cost (held o) b false
+held_parts : (qs : List spec.Part) (cost : ℕ → ℕ) (o : Option Stmt) (b : ℕ) → held_part qs cost (back-Stmt-For-1 o) b ≡ list_part qs cost (held_stmts o) b false
 unfolding part row_part held_part blocks row_blocks shape-the_row-Stmt-1 hidden-the_row-Stmt-1 hidden
 held_parts qs cost None b = refl
 held_parts qs cost (Some a) b = refl
@@ -65,7 +56,7 @@ pub part-Do : (qs : List spec.Part) (cost : ℕ → ℕ) (l : ℕ) (xs : List St
 unfolding part
 part-Do qs cost l xs e b = λ i. spec.Do (cost (b + row_is xs false i)) (l - 1) (row_parts qs cost xs b false i)
 
-pub part-For : (qs : List spec.Part) (cost : ℕ → ℕ) (l : ℕ) (a c : Option Stmt) (e : Expr) (xs : List Stmt) (b : ℕ) → part qs cost (For l a e c xs) b ≡ let bc = b + list_blocks (held a) false in sequence (list_part qs cost (held a) b false) (spec.While (cost bc) (l - 1) (step_part c (cost (bc + 1))) (list_part qs cost xs (bc + 1 + list_blocks (held c) false) false))
+pub part-For : (qs : List spec.Part) (cost : ℕ → ℕ) (l : ℕ) (a c : Option Stmt) (e : Expr) (xs : List Stmt) (b : ℕ) → part qs cost (For l a e c xs) b ≡ let bc = b + list_blocks (held_stmts a) false in sequence (list_part qs cost (held_stmts a) b false) (spec.While (cost bc) (l - 1) (step_part c (cost (bc + 1))) (list_part qs cost xs (bc + 1 + list_blocks (held_stmts c) false) false))
 unfolding part
 part-For qs cost l a c e xs b =
     λ i. let bc = b + held_is a i in sequence (held_parts qs cost a b i) (spec.While (cost bc) (l - 1) (steps_are c (cost (bc + 1)) i) (row_parts qs cost xs (bc + 1 + held_is c i) false i))

@@ -7,15 +7,15 @@ use Rattle.c_tree.specs.declared.program.Costs.{Costs}
 use Rattle.c_tree.specs.declared.program.Func.{Func}
 use Rattle.c_tree.specs.declared.tree.Expr.{Expr}
 use Rattle.c_tree.specs.declared.tree.Stmt.TheVariants.{For, Group}
-use Rattle.c_tree.specs.Statements.{held}
+use Rattle.c_tree.specs.Meaning.Statements.{held_stmts}
 use Rattle.c_tree.specs.declared.tree.Stmt.{Stmt}
-use Rattle.c_tree.specs.Blocks.{is_simple, begun, blocks, list_blocks}
-use Rattle.flow_laws.proofs.Sizes.{simple_blocks, plain_blocks}
+use Rattle.c_tree.specs.Meaning.Blocks.{is_simple, begun_blocks, blocks, list_blocks}
+use Rattle.flow_laws.proofs.Graphs.PartSizes.{simple_blocks, plain_blocks}
 use Rattle.ipet_peak.specs.declared.pieces.Piece.{Piece}
 use Rattle.peak_laws.specs.Parts.{Part, Nothing, Block, Then, Choice, While, Do, Body}
 use Rattle.peak_laws.specs.declared.ways.Leaving.TheVariants.{ByEnd}
-use Rattle.peak_laws.specs.ProgramParts.{sequence, pending_block, block_past_run, call_part, step_part, part, list_part, func_part, parts}
-use Rattle.c_tree.proofs.ExecLayers.{blocks-Group}
+use Rattle.peak_laws.specs.ProgramParts.{sequence, pending_block, block_past_run, call_part, step_part, part, list_part, func_part, function_parts}
+use Rattle.c_tree.proofs.Layers.ExecLayers.{blocks-Group}
 use Rattle.ipet_peak.specs.Pieces.{stack_after, Leads, IsVoid}
 use Rattle.ipet_peak.proofs.PartLayers.{part-For, part-Group}
 
@@ -27,7 +27,7 @@ pub record Stands (qs : List Part) (cost : ℕ → ℕ) (xs : List Stmt) (run : 
 pub at_first : (qs : List Part) (cost : ℕ → ℕ) (xs : List Stmt) (b : ℕ) (out : List Piece) → Stands qs cost xs false b out out (list_part qs cost xs b false) (b + list_blocks xs false)
 at_first qs cost xs b out = record { numbers = refl; makes = λ ps. refl }
 
-past_begun : (run : Bool) (b : ℕ) → block_past_run run b + begun run ≡ b + 1
+past_begun : (run : Bool) (b : ℕ) → block_past_run run b + begun_blocks run ≡ b + 1
 past_begun true b = omega arith
 past_begun false b = refl
 
@@ -83,7 +83,7 @@ some_at [] g lt h = omega (arith, lt)
 some_at (x ∷ xs) zero lt h = absurd (cc)
 some_at (x ∷ xs) (suc g) lt h = some_at xs g (omega (arith, lt)) h
 
-pub parts_length : (t : Costs) (qs : List Part) (fs : List Func) → length (parts t qs fs) ≡ length qs + length fs
+pub parts_length : (t : Costs) (qs : List Part) (fs : List Func) → length (function_parts t qs fs) ≡ length qs + length fs
 parts_length t qs [] = omega arith
 parts_length t qs (f ∷ fs) =
     omega (arith, parts_length t (qs ++ func_part t (length qs) f qs ∷ []) fs, length-append qs (func_part t (length qs) f qs ∷ []))
@@ -97,12 +97,12 @@ call_none o c h = ap (λ p. call_part p c) (sym h)
 
 -- ---- `for`
 
-pub for_is : (qs : List Part) (cost : ℕ → ℕ) (st : Stmt) (l : ℕ) (a k : Option Stmt) (e : Expr) (xs ys : List Stmt) (at test after inner n w spare : ℕ) (each : Option ℕ) → st ≡ For l a e k xs → ys ≡ xs → test ≡ at + list_blocks (held a) false → after ≡ test + 1 → inner ≡ after + n → n ≡ list_blocks (held k) false → w ≡ cost test → spare ≡ l - 1 → each ≡ step_part k (cost after)
-    → sequence (list_part qs cost (held a) at false) (While w spare each (list_part qs cost ys inner false)) ≡ part qs cost st at
+pub for_is : (qs : List Part) (cost : ℕ → ℕ) (st : Stmt) (l : ℕ) (a k : Option Stmt) (e : Expr) (xs ys : List Stmt) (at test after inner n w spare : ℕ) (each : Option ℕ) → st ≡ For l a e k xs → ys ≡ xs → test ≡ at + list_blocks (held_stmts a) false → after ≡ test + 1 → inner ≡ after + n → n ≡ list_blocks (held_stmts k) false → w ≡ cost test → spare ≡ l - 1 → each ≡ step_part k (cost after)
+    → sequence (list_part qs cost (held_stmts a) at false) (While w spare each (list_part qs cost ys inner false)) ≡ part qs cost st at
 for_is qs cost st l a k e xs ys at test after inner n w spare each is same t f i m wc sl es =
     let f' = f ∙ ap (λ z. z + 1) t in
     let i' = i ∙ (λ j. f' j + m j) in
-    (λ j. sequence (list_part qs cost (held a) at false) (While ((wc ∙ ap cost t) j) (sl j) ((es ∙ ap (λ z. step_part k (cost z)) f') j) (list_part qs cost (same j) (i' j) false))) ∙ sym (ap (λ s. part qs cost s at) is ∙ part-For qs cost l a k e xs at)
+    (λ j. sequence (list_part qs cost (held_stmts a) at false) (While ((wc ∙ ap cost t) j) (sl j) ((es ∙ ap (λ z. step_part k (cost z)) f') j) (list_part qs cost (same j) (i' j) false))) ∙ sym (ap (λ s. part qs cost s at) is ∙ part-For qs cost l a k e xs at)
 
 -- at the end of the list
 pub at_last : (qs : List Part) (cost : ℕ → ℕ) (xs : List Stmt) (i : ℕ) (run : Bool) (b : ℕ) (out first : List Piece) (p : Part) (end : ℕ) → length xs ≤ i → Stands qs cost (drop i xs) run b out first p end

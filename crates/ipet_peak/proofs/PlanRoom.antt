@@ -4,11 +4,11 @@ use Rattle.std.specs.Prelude.{slice_get, Result, Ok, Err, IfOk}
 use Rattle.std.proofs.Math.Nat.{mul-le-mul_left}
 use Rattle.c_tree.specs.declared.program.Costs.{Costs}
 use Rattle.c_tree.specs.declared.program.Program.{Program}
-use Rattle.c_tree.specs.WellFormed.{WellFormed}
+use Rattle.c_tree.specs.Keeping.WellFormed.{WellFormed}
 use Rattle.flow_laws.specs.Sites.{Site}
 use Rattle.flow_laws.specs.Graphs.{graph}
 use Rattle.flow_laws.specs.Paths.{cap_of}
-use Rattle.flow_graph.specs.Limits.{refusal}
+use Rattle.flow_graph.specs.Limits.{size_fault}
 use Rattle.flow_graph.proofs.Tame.{AllWithin}
 use Rattle.flow_graph.proofs.Measured.{all_within, entered, limits}
 use Rattle.ipet_rows.specs.CapsBound.{AreSmall}
@@ -16,10 +16,10 @@ use Rattle.peak_laws.specs.Parts.{Part}
 use Rattle.peak_laws.specs.ProgramParts.{program_part}
 use Rattle.peak_laws.specs.Magnitudes.{cap_cost, loop_count, excess, EachIsAtMost, node_caps}
 use Rattle.ipet_peak.specs.Trees.{FitsCaps}
-use Rattle.peak_laws.proofs.Places.{Agrees}
-use Rattle.peak_laws.proofs.Magnitudes.{excess_most}
-use Rattle.peak_laws.proofs.DualFits.{is_small}
-use Rattle.peak_laws.proofs.Programs.{program_shaped}
+use Rattle.peak_laws.proofs.GraphParts.Places.{Agrees}
+use Rattle.peak_laws.proofs.Duals.Magnitudes.{excess_most}
+use Rattle.peak_laws.proofs.Duals.DualFits.{is_small}
+use Rattle.peak_laws.proofs.GraphParts.Programs.{program_shaped}
 
 cap_within : (g : List Site) (v : ℕ) → AllWithin (2 ^ 40) g → cap_of (slice_get g v) ≤ 2 ^ 40
 cap_within [] v h = omega arith
@@ -35,7 +35,7 @@ pub record HasRoom (q : Part) : Type 0 where
   pub room : excess q ≤ 2 ^ 124
   pub fit : FitsCaps q 1
 
-pub plan_room : (p : Program) (t : Costs) → WellFormed p → AreSmall t → refusal (graph p) ≡ None → HasRoom (program_part p t)
+pub plan_room : (p : Program) (t : Costs) → WellFormed p → AreSmall t → size_fault (graph p) ≡ None → HasRoom (program_part p t)
 plan_room p t formed costs allowed =
     let o = program_part p t in
     let g = graph p in

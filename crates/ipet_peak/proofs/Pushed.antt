@@ -2,14 +2,14 @@
 use Rattle.std.proofs.Common.{◌≡◌, ℕ, ℤ, pos, List, [], ◌∷◌, ◌++◌, map, Option, None, refl, sym, ap, ◌∙◌, append_assoc, append-nil, ◌≤◌, ◌+◌, Some, arith}
 use Rattle.ipet_peak.specs.declared.tree.Tree.{Tree}
 use Rattle.ipet_peak.specs.declared.tree.Tree.TheVariants as tree
-use Rattle.peak_laws.specs.Parts.{Part, turn, dearest_ways, from_entry}
+use Rattle.peak_laws.specs.Parts.{Part, full_turn_cost, dearest_ways, from_entry}
 use Rattle.peak_laws.specs.declared.ways.Leaving.{Leaving}
 use Rattle.peak_laws.specs.declared.ways.Ways.{Ways}
 use Rattle.ipet_peak.specs.Trees.{part_of, turns_of, cost_by_way, dearest_cost, greatest_target}
 use Rattle.flow_laws.specs.Sites.{Targets}
-use Rattle.peak_laws.proofs.Dearest.{UpTo, upper, lower}
+use Rattle.peak_laws.proofs.Optima.Dearest.{UpTo, upper, lower}
 use Rattle.peak_laws.specs.Magnitudes.{cap_cost}
-use Rattle.peak_laws.proofs.Magnitudes.{Below, entry_most}
+use Rattle.peak_laws.proofs.Duals.Magnitudes.{Below, entry_most}
 use Rattle.ipet_peak.proofs.TreeLayers.{part-Nothing, part-Block, part-Then, part-Choice, part-While, part-Do}
 
 map_append : (p q : List ℕ) → map pos (p ++ q) ≡ map pos p ++ map pos q
@@ -39,11 +39,11 @@ pub turns_choice : (ways : Ways) (t a b x y : Tree) (c : ℕ) → t ≡ tree.Cho
 turns_choice ways t a b x y c is xa yb =
     ap (λ z. turns_of (part_of z)) is ∙ ap turns_of (part-Choice ways c a b) ∙ sym (λ i. turns_of (part_of (xa i)) ++ turns_of (part_of (yb i)))
 
-pub turns_while : (ways : Ways) (t a x : Tree) (c m v : ℕ) (s : Option ℕ) → t ≡ tree.While ways c m s a → x ≡ a → v ≡ turn c s (dearest_ways (part_of a)) → turns_of (part_of t) ≡ v ∷ turns_of (part_of x)
+pub turns_while : (ways : Ways) (t a x : Tree) (c m v : ℕ) (s : Option ℕ) → t ≡ tree.While ways c m s a → x ≡ a → v ≡ full_turn_cost c s (dearest_ways (part_of a)) → turns_of (part_of t) ≡ v ∷ turns_of (part_of x)
 turns_while ways t a x c m v s is xa vy =
     ap (λ z. turns_of (part_of z)) is ∙ ap turns_of (part-While ways c m s a) ∙ sym (λ i. vy i ∷ turns_of (part_of (xa i)))
 
-pub turns_do : (ways : Ways) (t a x : Tree) (c m v : ℕ) → t ≡ tree.Do ways c m a → x ≡ a → v ≡ turn c None (dearest_ways (part_of a)) → turns_of (part_of t) ≡ turns_of (part_of x) ++ (v ∷ [])
+pub turns_do : (ways : Ways) (t a x : Tree) (c m v : ℕ) → t ≡ tree.Do ways c m a → x ≡ a → v ≡ full_turn_cost c None (dearest_ways (part_of a)) → turns_of (part_of t) ≡ turns_of (part_of x) ++ (v ∷ [])
 turns_do ways t a x c m v is xa vy =
     ap (λ z. turns_of (part_of z)) is ∙ ap turns_of (part-Do ways c m a) ∙ sym (λ i. turns_of (part_of (xa i)) ++ (vy i ∷ []))
 

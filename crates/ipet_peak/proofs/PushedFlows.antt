@@ -4,16 +4,16 @@ use Rattle.std.proofs.Math.Nat.{mul-le-mul_left}
 use Rattle.flow_laws.specs.Sites.{Targets}
 use Rattle.ipet_peak.specs.declared.tree.Tree.{Tree}
 use Rattle.ipet_peak.specs.declared.tree.Tree.TheVariants as tree
-use Rattle.peak_laws.specs.Parts.{Part, Then, Choice, While, Do, Body, both, dearest_ways, turn}
+use Rattle.peak_laws.specs.Parts.{Part, Then, Choice, While, Do, Body, sum_of_both, dearest_ways, full_turn_cost}
 use Rattle.peak_laws.specs.declared.ways.Ways.{Ways}
 use Rattle.peak_laws.specs.Flows.{by_first, by_second, whole, then_first, then_second, choice_first, choice_second, amount_by_way, loop_body_amounts, step_flows, flows}
 use Rattle.peak_laws.specs.Magnitudes.{cap_cost, EachIsAtMost, node_caps, step_caps}
 use Rattle.ipet_peak.specs.Trees.{part_of, FitsCaps}
-use Rattle.peak_laws.proofs.Amounts.{shared}
-use Rattle.peak_laws.proofs.Magnitudes.{light, turn_light}
-use Rattle.peak_laws.proofs.Turned.{amount_by_way_most}
-use Rattle.peak_laws.proofs.Places.{Every}
-use Rattle.peak_laws.proofs.Ranges.{UpTo, every_left, every_right}
+use Rattle.peak_laws.proofs.Attaining.Amounts.{shared}
+use Rattle.peak_laws.proofs.Duals.Magnitudes.{light, turn_light}
+use Rattle.peak_laws.proofs.Attaining.Turned.{amount_by_way_most}
+use Rattle.peak_laws.proofs.GraphParts.Places.{Every}
+use Rattle.peak_laws.proofs.Duals.Ranges.{UpTo, every_left, every_right}
 use Rattle.ipet_peak.proofs.Supplies.{caps_fewer}
 use Rattle.ipet_peak.proofs.TreeLayers.{part-Nothing, part-Then, part-Choice, part-While, part-Do, part-Body}
 
@@ -22,17 +22,17 @@ shares o p x s b is two = omega (arith, is, two, shared o p x)
 
 pub then_most : (v w : Ways) (a : Targets) → whole (then_second v w a) ≤ whole a
 then_most v w a =
-    omega (arith, shared v.breaks (both v.next w.breaks) a.breaks, shared v.continues (both v.next w.continues) a.continues, shared v.returns (both v.next w.returns) a.returns)
+    omega (arith, shared v.breaks (sum_of_both v.next w.breaks) a.breaks, shared v.continues (sum_of_both v.next w.continues) a.continues, shared v.returns (sum_of_both v.next w.returns) a.returns)
 
 pub inner_whole : (w : Ways) (f b r : ℕ) → whole (loop_body_amounts w f b r) ≡ f + (b + r)
 inner_whole w f b r = omega (arith, shared w.next w.continues f)
 
-pub while_light : (c m : ℕ) (s : Option ℕ) (p : Part) → (m + 1) * turn c s (dearest_ways p) + c ≤ cap_cost (While c m s p)
+pub while_light : (c m : ℕ) (s : Option ℕ) (p : Part) → (m + 1) * full_turn_cost c s (dearest_ways p) + c ≤ cap_cost (While c m s p)
 while_light c m s p =
     let each = turn_light c s p (light p) in
     omega (arith, each, mul-le-mul_left m each)
 
-pub do_light : (c m : ℕ) (p : Part) → m * turn c None (dearest_ways p) + c ≤ cap_cost (Do c m p)
+pub do_light : (c m : ℕ) (p : Part) → m * full_turn_cost c None (dearest_ways p) + c ≤ cap_cost (Do c m p)
 do_light c m p =
     let each = turn_light c None p (light p) in
     omega (arith, each, mul-le-mul_left m each)

@@ -8,7 +8,7 @@ use Rattle.peak_laws.specs.Parts.{Part, While, Do, dearest_ways, step_cost, at_c
 use Rattle.peak_laws.specs.declared.ways.Ways.{Ways}
 use Rattle.peak_laws.specs.Magnitudes.{cap_cost, excess}
 use Rattle.ipet_peak.specs.Trees.{part_of, greatest_target}
-use Rattle.peak_laws.proofs.Magnitudes.{cap_cost_excess}
+use Rattle.peak_laws.proofs.Duals.Magnitudes.{cap_cost_excess}
 use Rattle.ipet_peak.proofs.TreeLayers.{part-Nothing, part-Then, part-Choice, part-While, part-Do, part-Body}
 use Rattle.ipet_peak.proofs.Pushed.{entry_tallest, two_pushed}
 

@@ -1,12 +1,12 @@
 -- For the code: the turns that are added are the multipliers of the loops, and fewer entries need no higher caps.
 use Rattle.std.proofs.Common.{◌≡◌, ◌≤◌, ℕ, ℤ, pos, map, ◌+◌, ◌*◌, List, [], ◌∷◌, ◌++◌, Option, Some, None, refl, ap, ◌∙◌, arith}
 use Rattle.std.proofs.Math.Nat.{mul-le-mul_left}
-use Rattle.peak_laws.specs.Parts.{Part, Nothing, Block, Then, Choice, While, Do, Body, dearest_ways, turn, step_size, size, CostedLoop, costed_loop, do_copy, costed_loops}
+use Rattle.peak_laws.specs.Parts.{Part, Nothing, Block, Then, Choice, While, Do, Body, dearest_ways, full_turn_cost, step_size, part_size, CostedLoop, costed_loop, do_copy, costed_loops}
 use Rattle.peak_laws.specs.Answers.{turn_costs}
 use Rattle.peak_laws.specs.Magnitudes.{step_caps, node_caps}
 use Rattle.ipet_peak.specs.Trees.{turns_of}
-use Rattle.peak_laws.proofs.Places.{Every, every_append}
-use Rattle.peak_laws.proofs.Ranges.{UpTo, every_left, every_right}
+use Rattle.peak_laws.proofs.GraphParts.Places.{Every, every_append}
+use Rattle.peak_laws.proofs.Duals.Ranges.{UpTo, every_left, every_right}
 
 -- ---- turns
 
@@ -17,11 +17,11 @@ turns_append (f ∷ fs) gs = ap (λ ys. f.turn ∷ ys) (turns_append fs gs)
 pub turns_are : (p : Part) (n : ℕ) → turn_costs (costed_loops p n) ≡ turns_of p
 turns_are Nothing n = refl
 turns_are (Block c l) n = refl
-turns_are (Then p q) n = turns_append (costed_loops p n) (costed_loops q (n + size p)) ∙ (λ i. turns_are p n i ++ turns_are q (n + size p) i)
-turns_are (Choice c p q) n = turns_append (costed_loops p (n + 1)) (costed_loops q (n + 1 + size p)) ∙ (λ i. turns_are p (n + 1) i ++ turns_are q (n + 1 + size p) i)
-turns_are (While c m s p) n = ap (λ ys. turn c s (dearest_ways p) ∷ ys) (turns_are p (n + 1 + step_size s))
+turns_are (Then p q) n = turns_append (costed_loops p n) (costed_loops q (n + part_size p)) ∙ (λ i. turns_are p n i ++ turns_are q (n + part_size p) i)
+turns_are (Choice c p q) n = turns_append (costed_loops p (n + 1)) (costed_loops q (n + 1 + part_size p)) ∙ (λ i. turns_are p (n + 1) i ++ turns_are q (n + 1 + part_size p) i)
+turns_are (While c m s p) n = ap (λ ys. full_turn_cost c s (dearest_ways p) ∷ ys) (turns_are p (n + 1 + step_size s))
 turns_are (Do c m p) n =
-    turns_append (costed_loops p n) (costed_loop (do_copy p n m) (turn c None (dearest_ways p)) ∷ []) ∙ ap (λ ys. ys ++ (turn c None (dearest_ways p) ∷ [])) (turns_are p n)
+    turns_append (costed_loops p n) (costed_loop (do_copy p n m) (full_turn_cost c None (dearest_ways p)) ∷ []) ∙ ap (λ ys. ys ++ (full_turn_cost c None (dearest_ways p) ∷ [])) (turns_are p n)
 turns_are (Body p) n = turns_are p n
 
 -- ---- caps

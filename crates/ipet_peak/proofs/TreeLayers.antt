@@ -5,12 +5,12 @@ use Rattle.ipet_peak.specs.declared.tree.Tree.{Tree}
 use Rattle.ipet_peak.specs.declared.tree.Tree.TheVariants as tree
 use Rattle.ipet_peak.specs.declared.tree.Tree.TheBlock.{shape-the_row-Tree-0, hidden-the_row-Tree-0}
 use denote.Hole.Carrier.{hidden}
-use Rattle.peak_laws.specs.Parts.{Nothing, Block, Then, Choice, While, Do, Body, turn, dearest_ways}
+use Rattle.peak_laws.specs.Parts.{Nothing, Block, Then, Choice, While, Do, Body, full_turn_cost, dearest_ways}
 use Rattle.peak_laws.specs.declared.ways.Leaving.{Leaving}
 use Rattle.peak_laws.specs.declared.ways.Ways.{Ways}
 use Rattle.peak_laws.specs.Magnitudes.{cap_cost, WaysAreAtMost}
 use Rattle.ipet_peak.specs.Trees.{part_of, row_part_of, KeepsWays, RowKeepsWays, IsTreeOf}
-use Rattle.peak_laws.proofs.Magnitudes.{light, turn_light, all_most_weak}
+use Rattle.peak_laws.proofs.Duals.Magnitudes.{light, turn_light, all_most_weak}
 
 pub part-Nothing : part_of tree.Nothing ≡ Nothing
 unfolding part_of
@@ -54,14 +54,14 @@ room_choice ways t a b c x is h =
     let e : cap_cost (part_of t) ≡ c + (cap_cost (part_of a) + cap_cost (part_of b)) = ap (λ y. cap_cost (part_of y)) is ∙ ap cap_cost (part-Choice ways c a b) in
     (omega (arith, h, e), omega (arith, h, e))
 
-pub room_while : (ways : Ways) (t a : Tree) (c m : ℕ) (s : Option ℕ) (x : ℕ) → t ≡ tree.While ways c m s a → cap_cost (part_of t) ≤ x → (cap_cost (part_of a) ≤ x) × ((m + 1) * turn c s (dearest_ways (part_of a)) + c ≤ x)
+pub room_while : (ways : Ways) (t a : Tree) (c m : ℕ) (s : Option ℕ) (x : ℕ) → t ≡ tree.While ways c m s a → cap_cost (part_of t) ≤ x → (cap_cost (part_of a) ≤ x) × ((m + 1) * full_turn_cost c s (dearest_ways (part_of a)) + c ≤ x)
 room_while ways t a c m s x is h =
     let e : cap_cost (part_of t) ≡ cap_cost (While c m s (part_of a)) = ap (λ y. cap_cost (part_of y)) is ∙ ap cap_cost (part-While ways c m s a) in
     let each = turn_light c s (part_of a) (light (part_of a)) in
     let all = mul-le-mul_left m each in
     (omega (arith, h, e), omega (arith, h, e, each, all))
 
-pub room_do : (ways : Ways) (t a : Tree) (c m x : ℕ) → t ≡ tree.Do ways c m a → cap_cost (part_of t) ≤ x → (cap_cost (part_of a) ≤ x) × (m * turn c None (dearest_ways (part_of a)) + c ≤ x)
+pub room_do : (ways : Ways) (t a : Tree) (c m x : ℕ) → t ≡ tree.Do ways c m a → cap_cost (part_of t) ≤ x → (cap_cost (part_of a) ≤ x) × (m * full_turn_cost c None (dearest_ways (part_of a)) + c ≤ x)
 room_do ways t a c m x is h =
     let e : cap_cost (part_of t) ≡ cap_cost (Do c m (part_of a)) = ap (λ y. cap_cost (part_of y)) is ∙ ap cap_cost (part-Do ways c m a) in
     let each = turn_light c None (part_of a) (light (part_of a)) in

@@ -3,12 +3,12 @@ use Rattle.std.specs.Prelude.{◌≡◌, false, ℕ, ◌+◌, List, [], ◌∷�
 use Rattle.c_tree.specs.declared.program.Costs.{Costs}
 use Rattle.c_tree.specs.declared.program.Func.{Func}
 use Rattle.c_tree.specs.declared.tree.Stmt.{Stmt}
-use Rattle.c_tree.specs.Blocks.{is_simple, blocks}
+use Rattle.c_tree.specs.Meaning.Blocks.{is_simple, blocks}
 use Rattle.ipet_peak.specs.declared.pieces.Piece.{Piece}
 use Rattle.ipet_peak.specs.declared.pieces.Piece.TheVariants as piece
 use Rattle.peak_laws.specs.Parts.{Part, Nothing, Block, Choice, While, Do, Body}
 use Rattle.peak_laws.specs.Magnitudes.{cap_cost}
-use Rattle.peak_laws.specs.ProgramParts.{sequence, part, costs_in, parts}
+use Rattle.peak_laws.specs.ProgramParts.{sequence, part, costs_in, function_parts}
 
 -- of a stack of parts the one that was made last
 abbrev pub last_part : List Part → Part
@@ -29,8 +29,10 @@ part_at qs f = unwrap_or (slice_get qs f) Nothing
 abbrev pub stack_after_piece : List Part → Piece → List Part → List Part
 stack_after_piece qs piece.Nothing ps = Nothing ∷ ps
 stack_after_piece qs (piece.Block c l) ps = Block c l ∷ ps
-stack_after_piece qs piece.Join ps = sequence (last_part ps) (last_part (earlier_parts ps)) ∷ earlier_parts (earlier_parts ps)
-stack_after_piece qs (piece.Choice c) ps = Choice c (last_part ps) (last_part (earlier_parts ps)) ∷ earlier_parts (earlier_parts ps)
+stack_after_piece qs piece.Join ps = sequence (last_part ps) (last_part (earlier_parts ps))
+    ∷ earlier_parts (earlier_parts ps)
+stack_after_piece qs (piece.Choice c) ps = Choice c (last_part ps) (last_part (earlier_parts ps))
+    ∷ earlier_parts (earlier_parts ps)
 stack_after_piece qs (piece.While c m s) ps = While c m s (last_part ps) ∷ earlier_parts ps
 stack_after_piece qs (piece.Do c m) ps = Do c m (last_part ps) ∷ earlier_parts ps
 stack_after_piece qs (piece.Call g) ps = Body (part_at qs g) ∷ ps
@@ -52,7 +54,8 @@ parts_made xss = parts_with [] xss
 abbrev pub MakeOneEach : List Part → List (List Piece) → Type 0
 MakeOneEach qs [] = Unit {0}
 MakeOneEach qs (xs ∷ xss) =
-    (stack_after qs xs [] ≡ last_part (stack_after qs xs []) ∷ []) × MakeOneEach (qs ++ last_part (stack_after qs xs []) ∷ []) xss
+    (stack_after qs xs [] ≡ last_part (stack_after qs xs []) ∷ [])
+    × MakeOneEach (qs ++ last_part (stack_after qs xs []) ∷ []) xss
 
 -- what the caps allow for all parts of a stack
 abbrev pub stack_cost : List Part → ℕ
@@ -75,7 +78,7 @@ pub record IsVoid (s : Stmt) : Type 0 where
 
 -- the parts of these functions, and the costs of the blocks of the one after them
 abbrev pub parts_above : Costs → List Func → List Part
-parts_above t fs = parts t [] fs
+parts_above t fs = function_parts t [] fs
 
 abbrev pub costs_after : Costs → List Func → ℕ → ℕ
 costs_after t fs = costs_in t (length fs)

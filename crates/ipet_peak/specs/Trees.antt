@@ -6,7 +6,7 @@ use Rattle.flow_laws.specs.Sites.{Targets}
 use Rattle.ipet_peak.specs.declared.ahead.CostsAhead.{CostsAhead}
 use Rattle.ipet_peak.specs.declared.flows.Amounts.{Amounts}
 use Rattle.peak_laws.specs.Magnitudes.{node_caps, EachIsAtMost}
-use Rattle.peak_laws.specs.Parts.{Part, Nothing, Block, Then, Choice, While, Do, Body, dearest_ways, turn}
+use Rattle.peak_laws.specs.Parts.{Part, Nothing, Block, Then, Choice, While, Do, Body, dearest_ways, full_turn_cost}
 use Rattle.peak_laws.specs.declared.ways.Ways.{Ways}
 
 unfoldable mutual
@@ -28,8 +28,10 @@ unfoldable mutual
   pub KeepsWays : Tree → Type 0
   KeepsWays tree.Nothing = Unit {0}
   KeepsWays (tree.Block c l) = Unit {0}
-  KeepsWays (tree.Then' w a x b y) = (w ≡ dearest_ways (Then (row_part_of x) (row_part_of y))) × (RowKeepsWays x × RowKeepsWays y)
-  KeepsWays (tree.Choice' w c a x b y) = (w ≡ dearest_ways (Choice c (row_part_of x) (row_part_of y))) × (RowKeepsWays x × RowKeepsWays y)
+  KeepsWays (tree.Then' w a x b y) = (w ≡ dearest_ways (Then (row_part_of x) (row_part_of y)))
+      × (RowKeepsWays x × RowKeepsWays y)
+  KeepsWays (tree.Choice' w c a x b y) = (w ≡ dearest_ways (Choice c (row_part_of x) (row_part_of y)))
+      × (RowKeepsWays x × RowKeepsWays y)
   KeepsWays (tree.While' w c m s a x) = (w ≡ dearest_ways (While c m s (row_part_of x))) × RowKeepsWays x
   KeepsWays (tree.Do' w c m a x) = (w ≡ dearest_ways (Do c m (row_part_of x))) × RowKeepsWays x
   KeepsWays (tree.Body' w a x) = (w ≡ dearest_ways (Body (row_part_of x))) × RowKeepsWays x
@@ -49,8 +51,8 @@ turns_of Nothing = []
 turns_of (Block c l) = []
 turns_of (Then p q) = turns_of p ++ turns_of q
 turns_of (Choice c p q) = turns_of p ++ turns_of q
-turns_of (While c m s p) = turn c s (dearest_ways p) ∷ turns_of p
-turns_of (Do c m p) = turns_of p ++ (turn c None (dearest_ways p) ∷ [])
+turns_of (While c m s p) = full_turn_cost c s (dearest_ways p) ∷ turns_of p
+turns_of (Do c m p) = turns_of p ++ (full_turn_cost c None (dearest_ways p) ∷ [])
 turns_of (Body p) = turns_of p
 
 -- ---- from ways to what lies ahead
@@ -66,8 +68,8 @@ dearest_cost w t =
     max (max (cost_by_way w.next t.next) (cost_by_way w.breaks t.breaks))
     (max (cost_by_way w.continues t.continues) (cost_by_way w.returns t.returns))
 
-abbrev pub targets : CostsAhead → Targets
-targets t = record { next = t.next; breaks = t.breaks; continues = t.continues; returns = t.returns }
+abbrev pub cost_targets : CostsAhead → Targets
+cost_targets t = record { next = t.next; breaks = t.breaks; continues = t.continues; returns = t.returns }
 
 -- the greatest of the four
 abbrev pub greatest_target : Targets → ℕ
@@ -75,8 +77,8 @@ greatest_target t = max (max t.next t.breaks) (max t.continues t.returns)
 
 -- ---- counts
 
-abbrev pub amounts : Amounts → Targets
-amounts a = record { next = a.next; breaks = a.breaks; continues = a.continues; returns = a.returns }
+abbrev pub amount_targets : Amounts → Targets
+amount_targets a = record { next = a.next; breaks = a.breaks; continues = a.continues; returns = a.returns }
 
 -- a part that is entered k times, no node of which can be reached more than 2^40 times
 pub record FitsCaps (p : Part) (k : ℕ) : Type 0 where

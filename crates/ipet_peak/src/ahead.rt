@@ -5,7 +5,7 @@ ghost use Rattle.flow_laws.specs.Sites as sites;
 ghost use Rattle.flow_laws.specs.Graphs as graphs;
 ghost use Rattle.peak_laws.specs.Parts as spec;
 ghost use Rattle.peak_laws.specs.Magnitudes.{WayIsAtMost, WaysAreAtMost};
-ghost use Rattle.ipet_peak.specs.Trees.{cost_by_way, dearest_cost, targets, greatest_target};
+ghost use Rattle.ipet_peak.specs.Trees.{cost_by_way, dearest_cost, cost_targets, greatest_target};
 
 use peak_laws::{Leaving, Ways};
 
@@ -19,7 +19,7 @@ pub(crate) struct CostsAhead {
 }
 
 pub(crate) fn ahead(t: CostsAhead, leaving: Leaving) -> u128
-    ensures { result ≡ spec.ahead (targets t) leaving }
+    ensures { result ≡ spec.ahead (cost_targets t) leaving }
 {
     match leaving {
         Leaving::ByEnd => t.next,
@@ -30,14 +30,14 @@ pub(crate) fn ahead(t: CostsAhead, leaving: Leaving) -> u128
 }
 
 pub(crate) fn with_next(t: CostsAhead, next: u128) -> CostsAhead
-    ensures { targets result ≡ sites.with_next (targets t) next }
+    ensures { cost_targets result ≡ sites.with_next (cost_targets t) next }
 {
     CostsAhead { next, ..t }
 }
 
 /// Of a loop's body, whose ends lead back to what costs `back`.
 pub(crate) fn body_of(t: CostsAhead, back: u128) -> CostsAhead
-    ensures { targets result ≡ sites.body_of (targets t) back }
+    ensures { cost_targets result ≡ sites.body_of (cost_targets t) back }
 {
     CostsAhead {
         next: back,
@@ -49,7 +49,7 @@ pub(crate) fn body_of(t: CostsAhead, back: u128) -> CostsAhead
 
 /// Of a callee's body.
 pub(crate) fn all_to(next: u128) -> CostsAhead
-    ensures { targets result ≡ graphs.all_to next }
+    ensures { cost_targets result ≡ graphs.all_to next }
 {
     CostsAhead {
         next,
@@ -79,8 +79,8 @@ fn cost_by_way(o: Option<u128>, t: u128) -> u128
 /// The dearest of the ways with what is ahead of each.
 pub(crate) fn dearest_cost(w: Ways, t: CostsAhead) -> u128
     requires w { WaysAreAtMost w (2 ^ 126) }
-    requires t { greatest_target (targets t) ≤ 2 ^ 126 }
-    ensures { result ≡ dearest_cost w (targets t) }
+    requires t { greatest_target (cost_targets t) ≤ 2 ^ 126 }
+    ensures { result ≡ dearest_cost w (cost_targets t) }
 {
     larger(
         larger(cost_by_way(w.next, t.next), cost_by_way(w.breaks, t.breaks)),

@@ -1,7 +1,7 @@
 //! The peak of a plan, from the tree of its program.
 
 ghost use Rattle.std.specs.Prelude.{◌≡◌, ◌≤◌, ◌^◌, pos, IfOk};
-ghost use Rattle.c_tree.specs.Claims.{Above};
+ghost use Rattle.c_tree.specs.Meaning.Claims.{Above};
 ghost use Rattle.peak_laws.specs.Answers.{peak_value, peak_counts, peak_multipliers};
 ghost use Rattle.peak_laws.specs.Magnitudes.{cap_cost, excess};
 ghost use Rattle.ipet_peak.specs.Trees.{part_of, FitsCaps, KeepsWays};

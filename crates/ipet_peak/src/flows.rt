@@ -4,7 +4,7 @@ ghost use Rattle.std.specs.Prelude.{◌≡◌, ◌≤◌, ◌<◌, ◌+◌, ◌*
 ghost use Rattle.peak_laws.specs.Parts as spec;
 ghost use Rattle.peak_laws.specs.Flows as counts;
 ghost use Rattle.peak_laws.specs.Magnitudes.{cap_cost, WaysAreAtMost, node_caps};
-ghost use Rattle.ipet_peak.specs.Trees.{part_of, amounts, FitsCaps, KeepsWays};
+ghost use Rattle.ipet_peak.specs.Trees.{part_of, amount_targets, FitsCaps, KeepsWays};
 
 use crate::tree::{Tree, dearest_ways, step_cost};
 use c_tree::NoMemory;
@@ -72,14 +72,14 @@ fn amount_by_way(o: Option<u128>, x: u64) -> u64
 }
 
 fn whole(a: Amounts) -> u64
-    requires { counts.whole (amounts a) < 2 ^ 64 }
-    ensures { result ≡ counts.whole (amounts a) }
+    requires { counts.whole (amount_targets a) < 2 ^ 64 }
+    ensures { result ≡ counts.whole (amount_targets a) }
 {
     a.next + (a.breaks + (a.continues + a.returns))
 }
 
 fn leaving(a: Amounts, leaving: Leaving) -> u64
-    ensures { result ≡ spec.ahead (amounts a) leaving }
+    ensures { result ≡ spec.ahead (amount_targets a) leaving }
 {
     match leaving {
         Leaving::ByEnd => a.next,
@@ -92,7 +92,7 @@ fn leaving(a: Amounts, leaving: Leaving) -> u64
 fn then_second(v: Ways, w: Ways, a: Amounts) -> Amounts
     requires v { WaysAreAtMost v (2 ^ 126) }
     requires w { WaysAreAtMost w (2 ^ 126) }
-    ensures { amounts result ≡ counts.then_second v w (amounts a) }
+    ensures { amount_targets result ≡ counts.then_second v w (amount_targets a) }
 {
     Amounts {
         next: a.next,
@@ -105,8 +105,8 @@ fn then_second(v: Ways, w: Ways, a: Amounts) -> Amounts
 fn then_first(v: Ways, w: Ways, next: u64, a: Amounts) -> Amounts
     requires v { WaysAreAtMost v (2 ^ 126) }
     requires w { WaysAreAtMost w (2 ^ 126) }
-    requires next { next ≡ counts.whole (counts.then_second v w (amounts a)) }
-    ensures { amounts result ≡ counts.then_first v w (amounts a) }
+    requires next { next ≡ counts.whole (counts.then_second v w (amount_targets a)) }
+    ensures { amount_targets result ≡ counts.then_first v w (amount_targets a) }
 {
     Amounts {
         next,
@@ -122,9 +122,11 @@ fn then_shares(a: &Tree, b: &Tree, left: Amounts) -> Shares
     requires b { KeepsWays b.now }
     requires first { cap_cost (part_of a.now) ≤ 2 ^ 125 }
     requires second { cap_cost (part_of b.now) ≤ 2 ^ 125 }
-    requires left { counts.whole (amounts left) ≤ 2 ^ 40 }
-    ensures first { amounts result.first ≡ counts.then_first (spec.dearest_ways (part_of a.now)) (spec.dearest_ways (part_of b.now)) (amounts left) }
-    ensures second { amounts result.second ≡ counts.then_second (spec.dearest_ways (part_of a.now)) (spec.dearest_ways (part_of b.now)) (amounts left) }
+    requires left { counts.whole (amount_targets left) ≤ 2 ^ 40 }
+    ensures first { amount_targets result.first ≡ counts.then_first (spec.dearest_ways (part_of a.now))
+        (spec.dearest_ways (part_of b.now)) (amount_targets left) }
+    ensures second { amount_targets result.second ≡ counts.then_second (spec.dearest_ways (part_of a.now))
+        (spec.dearest_ways (part_of b.now)) (amount_targets left) }
 {
     let v = dearest_ways(a);
     let w = dearest_ways(b);
@@ -134,7 +136,7 @@ fn then_shares(a: &Tree, b: &Tree, left: Amounts) -> Shares
 }
 
 fn choice_first(v: Ways, w: Ways, a: Amounts) -> Amounts
-    ensures { amounts result ≡ counts.choice_first v w (amounts a) }
+    ensures { amount_targets result ≡ counts.choice_first v w (amount_targets a) }
 {
     Amounts {
         next: by_first(v.next, w.next, a.next),
@@ -145,7 +147,7 @@ fn choice_first(v: Ways, w: Ways, a: Amounts) -> Amounts
 }
 
 fn choice_second(v: Ways, w: Ways, a: Amounts) -> Amounts
-    ensures { amounts result ≡ counts.choice_second v w (amounts a) }
+    ensures { amount_targets result ≡ counts.choice_second v w (amount_targets a) }
 {
     Amounts {
         next: by_second(v.next, w.next, a.next),
@@ -159,8 +161,10 @@ fn choice_second(v: Ways, w: Ways, a: Amounts) -> Amounts
 fn choice_shares(a: &Tree, b: &Tree, left: Amounts) -> Shares
     requires a { KeepsWays a.now }
     requires b { KeepsWays b.now }
-    ensures first { amounts result.first ≡ counts.choice_first (spec.dearest_ways (part_of a.now)) (spec.dearest_ways (part_of b.now)) (amounts left) }
-    ensures second { amounts result.second ≡ counts.choice_second (spec.dearest_ways (part_of a.now)) (spec.dearest_ways (part_of b.now)) (amounts left) }
+    ensures first { amount_targets result.first ≡ counts.choice_first (spec.dearest_ways (part_of a.now))
+        (spec.dearest_ways (part_of b.now)) (amount_targets left) }
+    ensures second { amount_targets result.second ≡ counts.choice_second (spec.dearest_ways (part_of a.now))
+        (spec.dearest_ways (part_of b.now)) (amount_targets left) }
 {
     let v = dearest_ways(a);
     let w = dearest_ways(b);
@@ -172,7 +176,7 @@ fn choice_shares(a: &Tree, b: &Tree, left: Amounts) -> Shares
 
 // How a loop's body is left that leads back `full` times.
 fn loop_body_amounts(w: Ways, full: u64, out: u64, r: u64) -> Amounts
-    ensures { amounts result ≡ counts.loop_body_amounts w full out r }
+    ensures { amount_targets result ≡ counts.loop_body_amounts w full out r }
 {
     Amounts {
         next: by_first(w.next, w.continues, full),
@@ -186,10 +190,11 @@ fn loop_body_amounts(w: Ways, full: u64, out: u64, r: u64) -> Amounts
 fn while_turns(c: u64, m: u32, step: Option<u64>, body: &Tree, a: Amounts) -> Turns
     requires keeps { KeepsWays body.now }
     requires light { cap_cost (spec.While c m step (part_of body.now)) ≤ 2 ^ 125 }
-    requires fits { counts.whole (amounts a) * (m + 1) ≤ 2 ^ 40 }
-    ensures counts { counts.flows (spec.While c m step (part_of body.now)) (amounts a)
-        ≡ result.on ∷ (result.out ∷ (counts.step_flows step result.full ++ counts.flows (part_of body.now) (amounts result.body))) }
-    ensures fits { counts.whole (amounts result.body) ≤ counts.whole (amounts a) * (m + 1) }
+    requires fits { counts.whole (amount_targets a) * (m + 1) ≤ 2 ^ 40 }
+    ensures counts { counts.flows (spec.While c m step (part_of body.now)) (amount_targets a)
+        ≡ result.on ∷ (result.out ∷ (counts.step_flows step result.full ++ counts.flows (part_of body.now)
+        (amount_targets result.body))) }
+    ensures fits { counts.whole (amount_targets result.body) ≤ counts.whole (amount_targets a) * (m + 1) }
 {
     let w = dearest_ways(body);
     let cost = u128::from(c);
@@ -213,10 +218,10 @@ fn while_turns(c: u64, m: u32, step: Option<u64>, body: &Tree, a: Amounts) -> Tu
 fn do_turns(c: u64, m: u32, body: &Tree, a: Amounts) -> Turns
     requires keeps { KeepsWays body.now }
     requires light { cap_cost (spec.Do c m (part_of body.now)) ≤ 2 ^ 125 }
-    requires fits { counts.whole (amounts a) * (m + 1) ≤ 2 ^ 40 }
-    ensures counts { counts.flows (spec.Do c m (part_of body.now)) (amounts a)
-        ≡ counts.flows (part_of body.now) (amounts result.body) ++ (result.on ∷ (result.out ∷ [])) }
-    ensures fits { counts.whole (amounts result.body) ≤ counts.whole (amounts a) * (m + 1) }
+    requires fits { counts.whole (amount_targets a) * (m + 1) ≤ 2 ^ 40 }
+    ensures counts { counts.flows (spec.Do c m (part_of body.now)) (amount_targets a)
+        ≡ counts.flows (part_of body.now) (amount_targets result.body) ++ (result.on ∷ (result.out ∷ [])) }
+    ensures fits { counts.whole (amount_targets result.body) ≤ counts.whole (amount_targets a) * (m + 1) }
 {
     let w = dearest_ways(body);
     let cost = u128::from(c);
@@ -236,7 +241,7 @@ fn do_turns(c: u64, m: u32, body: &Tree, a: Amounts) -> Turns
 
 // How a callee's body is left that is left `x` times.
 fn body_amounts(w: Ways, x: u64) -> Amounts
-    ensures { amounts result ≡ counts.body_amounts w x }
+    ensures { amount_targets result ≡ counts.body_amounts w x }
 {
     let here = greater(w.next, w.breaks);
     let there = greater(w.continues, w.returns);
@@ -264,8 +269,8 @@ fn push_step(step: Option<u64>, full: u64, out: &mut Items<u64>) -> Result<(), N
 pub(crate) fn push_flows(tree: &Tree, a: Amounts, out: &mut Items<u64>) -> Result<(), NoMemory>
     requires keeps { KeepsWays tree.now }
     requires light { cap_cost (part_of tree.now) ≤ 2 ^ 125 }
-    requires fit { FitsCaps (part_of tree.now) (counts.whole (amounts a)) }
-    ensures { IfOk result (λ u. out.new ≡ out.old ++ counts.flows (part_of tree.now) (amounts a)) }
+    requires fit { FitsCaps (part_of tree.now) (counts.whole (amount_targets a)) }
+    ensures { IfOk result (λ u. out.new ≡ out.old ++ counts.flows (part_of tree.now) (amount_targets a)) }
 {
     match tree {
         Tree::Nothing => Ok(()),

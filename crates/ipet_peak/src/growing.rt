@@ -5,7 +5,15 @@ ghost use Rattle.peak_laws.specs.Parts as spec;
 ghost use Rattle.peak_laws.specs.Magnitudes.{cap_cost};
 ghost use Rattle.peak_laws.specs.ProgramParts as spec_program;
 ghost use Rattle.ipet_peak.specs.declared.pieces.Piece.TheVariants as piece;
-ghost use Rattle.ipet_peak.specs.Pieces.{last_part, earlier_parts, stack_after_piece, part_at, parts_made, MakeOneEach, stack_cost};
+ghost use Rattle.ipet_peak.specs.Pieces.{
+  last_part,
+  earlier_parts,
+  stack_after_piece,
+  part_at,
+  parts_made,
+  MakeOneEach,
+  stack_cost,
+};
 ghost use Rattle.ipet_peak.specs.Trees.{part_of, parts_of, KeepsWays, EachKeepsWays, IsTreeOf, Makes};
 
 use crate::pieces::{Piece, function_pieces};
@@ -149,7 +157,8 @@ fn make(
     requires one { MakeOneEach [] funcs.now }
     requires kept { EachKeepsWays trees.old }
     requires room { stack_cost (stack_after_piece (parts_made funcs.now) piece (parts_of trees.old)) ≤ 2 ^ 126 }
-    ensures { IfOk result (λ t. Makes t trees.new (stack_after_piece (parts_made funcs.now) piece (parts_of trees.old))) }
+    ensures { IfOk result (λ t. Makes t trees.new (stack_after_piece (parts_made funcs.now) piece
+        (parts_of trees.old))) }
 {
     match piece {
         Piece::Nothing => no_tree(alloc),

@@ -2,11 +2,21 @@
 //! those of the parts that it holds.
 
 ghost use Rattle.std.specs.Prelude.{◌≡◌, ◌<◌, ◌+◌, ◌^◌, ◌∷◌, [], List, length, slice_get, IfOk, false, true};
-ghost use Rattle.c_tree.specs.Blocks.{is_simple, blocks, list_blocks};
-ghost use Rattle.c_tree.specs.Statements.{held};
+ghost use Rattle.c_tree.specs.Meaning.Blocks.{is_simple, blocks, list_blocks};
+ghost use Rattle.c_tree.specs.Meaning.Statements.{held_stmts};
 ghost use Rattle.peak_laws.specs.Parts as spec;
 ghost use Rattle.peak_laws.specs.ProgramParts as program;
-ghost use Rattle.ipet_peak.specs.Pieces.{stack_after_piece, stack_after, Adds, Leads, IsVoid, parts_above, costs_after, parts_made, MakeOneEach};
+ghost use Rattle.ipet_peak.specs.Pieces.{
+  stack_after_piece,
+  stack_after,
+  Adds,
+  Leads,
+  IsVoid,
+  parts_above,
+  costs_after,
+  parts_made,
+  MakeOneEach,
+};
 
 use c_semantics::is_simple;
 use c_tree::{Costs, Func, NoMemory, Stmt};
@@ -69,7 +79,8 @@ fn put_pending(
 ) -> Result<usize, NoMemory>
     ensures block { IfOk result (λ b. b ≡ program.block_past_run run at) }
     ensures pieces { IfOk result (λ b. (qs : List spec.Part)
-        → Leads qs out.old out.new (program.pending_block run (costs_after scope.entry.costs.now scope.entry.funcs.now at))) }
+        → Leads qs out.old out.new (program.pending_block run (costs_after scope.entry.costs.now scope.entry.funcs.now
+        at))) }
 {
     if !run {
         return Ok(at);
@@ -82,7 +93,8 @@ fn put_pending(
 fn put_last(scope: Scope, run: bool, at: usize, out: &mut Items<Piece>) -> Result<usize, NoMemory>
     ensures block { IfOk result (λ b. b ≡ program.block_past_run run at) }
     ensures pieces { IfOk result (λ b. (qs : List spec.Part)
-        → Adds qs out.old out.new (program.pending_block run (costs_after scope.entry.costs.now scope.entry.funcs.now at))) }
+        → Adds qs out.old out.new (program.pending_block run (costs_after scope.entry.costs.now scope.entry.funcs.now
+        at))) }
 {
     if run {
         put_block(scope, at, Leaving::ByEnd, out)
@@ -111,7 +123,8 @@ fn put_block(
 fn put_call(scope: Scope, callee: u32, at: usize, out: &mut Items<Piece>) -> Result<usize, NoMemory>
     ensures block { IfOk result (λ b. b ≡ at + 1) }
     ensures pieces { IfOk result (λ b. Adds (parts_above scope.entry.costs.now scope.entry.funcs.now) out.old out.new
-        (program.call_part (slice_get (parts_above scope.entry.costs.now scope.entry.funcs.now) callee) (costs_after scope.entry.costs.now scope.entry.funcs.now at))) }
+        (program.call_part (slice_get (parts_above scope.entry.costs.now scope.entry.funcs.now) callee)
+        (costs_after scope.entry.costs.now scope.entry.funcs.now at))) }
 {
     put(Piece::Join, out)?;
     let block = put_block(scope, at, Leaving::ByEnd, out)?;
@@ -130,7 +143,7 @@ fn list_blocks(list: &[Stmt]) -> Result<usize, NoMemory>
 }
 
 fn held_blocks(stmt: &Option<Boxed<Stmt>>) -> Result<usize, NoMemory>
-    ensures { IfOk result (λ n. n ≡ list_blocks (held stmt.now) false) }
+    ensures { IfOk result (λ n. n ≡ list_blocks (held_stmts stmt.now) false) }
 {
     match stmt {
         None => Ok(0),
@@ -149,7 +162,7 @@ fn held_step(scope: Scope, step: &Option<Boxed<Stmt>>, at: usize) -> Option<u64>
 }
 
 // Whether the statement is a group of such groups, down to empty ones.
-#[tactic(auto, using(crate::proofs::PartLayers::part_layers, c_tree::proofs::ExecLayers::exec_layers))]
+#[tactic(auto, using(crate::proofs::PartLayers::part_layers, c_tree::proofs::Layers::ExecLayers::exec_layers))]
 fn is_void(stmt: &Stmt) -> bool
     ensures { result ≡ true → IsVoid stmt.now }
 {
@@ -175,7 +188,8 @@ pub(crate) fn list_pieces(
 ) -> Result<usize, NoMemory>
     ensures block { IfOk result (λ b. b ≡ at + list_blocks list.now false) }
     ensures pieces { IfOk result (λ b. Adds (parts_above scope.entry.costs.now scope.entry.funcs.now) out.old out.new
-        (program.list_part (parts_above scope.entry.costs.now scope.entry.funcs.now) (costs_after scope.entry.costs.now scope.entry.funcs.now) list.now at false)) }
+        (program.list_part (parts_above scope.entry.costs.now scope.entry.funcs.now) (costs_after scope.entry.costs.now
+        scope.entry.funcs.now) list.now at false)) }
 {
     let mut block = at;
     let mut run = false;
@@ -202,7 +216,8 @@ fn next_pieces(
     requires { is_simple stmt.now ≡ false }
     ensures block { IfOk result (λ b. b ≡ at + blocks stmt.now false) }
     ensures pieces { IfOk result (λ b. Leads (parts_above scope.entry.costs.now scope.entry.funcs.now) out.old out.new
-        (program.part (parts_above scope.entry.costs.now scope.entry.funcs.now) (costs_after scope.entry.costs.now scope.entry.funcs.now) stmt.now at)) }
+        (program.part (parts_above scope.entry.costs.now scope.entry.funcs.now) (costs_after scope.entry.costs.now
+        scope.entry.funcs.now) stmt.now at)) }
 {
     if is_void(stmt) {
         return Ok(at);
@@ -219,9 +234,10 @@ fn held_pieces(
     at: usize,
     out: &mut Items<Piece>,
 ) -> Result<usize, NoMemory>
-    ensures block { IfOk result (λ b. b ≡ at + list_blocks (held part.now) false) }
+    ensures block { IfOk result (λ b. b ≡ at + list_blocks (held_stmts part.now) false) }
     ensures pieces { IfOk result (λ b. Adds (parts_above scope.entry.costs.now scope.entry.funcs.now) out.old out.new
-        (program.list_part (parts_above scope.entry.costs.now scope.entry.funcs.now) (costs_after scope.entry.costs.now scope.entry.funcs.now) (held part.now) at false)) }
+        (program.list_part (parts_above scope.entry.costs.now scope.entry.funcs.now) (costs_after scope.entry.costs.now
+        scope.entry.funcs.now) (held_stmts part.now) at false)) }
 {
     match part {
         None => {
@@ -241,7 +257,7 @@ fn held_pieces(
 
 // A statement that is not simple.
 #[cycle(pieces)]
-#[tactic(auto, using(crate::proofs::PartLayers::part_layers, c_tree::proofs::ExecLayers::exec_layers))]
+#[tactic(auto, using(crate::proofs::PartLayers::part_layers, c_tree::proofs::Layers::ExecLayers::exec_layers))]
 fn stmt_pieces(
     scope: Scope,
     stmt: &Stmt,
@@ -251,7 +267,8 @@ fn stmt_pieces(
     requires { is_simple stmt.now ≡ false }
     ensures block { IfOk result (λ b. b ≡ at + blocks stmt.now false) }
     ensures pieces { IfOk result (λ b. Adds (parts_above scope.entry.costs.now scope.entry.funcs.now) out.old out.new
-        (program.part (parts_above scope.entry.costs.now scope.entry.funcs.now) (costs_after scope.entry.costs.now scope.entry.funcs.now) stmt.now at)) }
+        (program.part (parts_above scope.entry.costs.now scope.entry.funcs.now) (costs_after scope.entry.costs.now
+        scope.entry.funcs.now) stmt.now at)) }
 {
     match stmt {
         Stmt::Group(list) => list_pieces(scope, list.as_slice(), at, out),
@@ -295,8 +312,10 @@ fn stmt_pieces(
 
 // The pieces of one function.
 fn pieces_of(alloc: Global, scope: Scope, body: &[Stmt]) -> Result<Items<Piece>, NoMemory>
-    ensures { IfOk result (λ xs. (ps : List spec.Part) → stack_after (parts_above scope.entry.costs.now scope.entry.funcs.now) xs ps
-        ≡ program.list_part (parts_above scope.entry.costs.now scope.entry.funcs.now) (costs_after scope.entry.costs.now scope.entry.funcs.now) body.now 0 false ∷ ps) }
+    ensures { IfOk result (λ xs. (ps : List spec.Part)
+        → stack_after (parts_above scope.entry.costs.now scope.entry.funcs.now) xs ps
+        ≡ program.list_part (parts_above scope.entry.costs.now scope.entry.funcs.now)
+        (costs_after scope.entry.costs.now scope.entry.funcs.now) body.now 0 false ∷ ps) }
 {
     let mut pieces = Items::new(alloc);
     list_pieces(scope, body, 0, &mut pieces)?;

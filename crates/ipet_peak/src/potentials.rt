@@ -4,7 +4,7 @@ ghost use Rattle.std.specs.Prelude.{◌≡◌, ◌≤◌, ◌<◌, ◌+◌, ◌^
 ghost use Rattle.flow_laws.specs.Sites as sites;
 ghost use Rattle.peak_laws.specs.Parts as spec;
 ghost use Rattle.peak_laws.specs.Magnitudes.{cap_cost, excess};
-ghost use Rattle.ipet_peak.specs.Trees.{part_of, targets, greatest_target, KeepsWays};
+ghost use Rattle.ipet_peak.specs.Trees.{part_of, cost_targets, greatest_target, KeepsWays};
 
 use crate::ahead::{CostsAhead, ahead, all_to, body_of, dearest_cost, larger, with_next};
 use crate::tree::{Tree, dearest_ways, step_cost};
@@ -16,9 +16,9 @@ use sqlite_items::Items;
 pub(crate) fn from_entry(tree: &Tree, t: CostsAhead) -> u128
     requires keeps { KeepsWays tree.now }
     requires tree { cap_cost (part_of tree.now) ≤ 2 ^ 126 }
-    requires t { greatest_target (targets t) ≤ 2 ^ 126 }
-    ensures value { result ≡ spec.from_entry (part_of tree.now) (targets t) }
-    ensures most { result ≤ cap_cost (part_of tree.now) + greatest_target (targets t) }
+    requires t { greatest_target (cost_targets t) ≤ 2 ^ 126 }
+    ensures value { result ≡ spec.from_entry (part_of tree.now) (cost_targets t) }
+    ensures most { result ≤ cap_cost (part_of tree.now) + greatest_target (cost_targets t) }
 {
     dearest_cost(dearest_ways(tree), t)
 }
@@ -29,9 +29,10 @@ pub(crate) fn from_condition(c: u128, step: u128, body: &Tree, t: CostsAhead) ->
     requires step { step < 2 ^ 64 }
     requires keeps { KeepsWays body.now }
     requires body { cap_cost (part_of body.now) ≤ 2 ^ 125 }
-    requires t { greatest_target (targets t) ≤ 2 ^ 125 }
-    ensures { result ≡ spec.from_condition c (spec.turn_cost (c + step) (spec.back (spec.dearest_ways (part_of body.now))))
-        (spec.from_entry (part_of body.now) (sites.body_of (targets t) (step + (c + t.next)))) t.next }
+    requires t { greatest_target (cost_targets t) ≤ 2 ^ 125 }
+    ensures { result ≡ spec.from_condition c
+        (spec.turn_cost (c + step) (spec.way_back (spec.dearest_ways (part_of body.now))))
+        (spec.from_entry (part_of body.now) (sites.body_of (cost_targets t) (step + (c + t.next)))) t.next }
 {
     let once = turn_cost(c + step, dearest_ways(body));
     let entry = from_entry(body, body_of(t, step + (c + t.next)));
@@ -65,8 +66,8 @@ pub(crate) fn push_potentials(
     out: &mut Items<i128>,
 ) -> Result<(), NoMemory>
     requires keeps { KeepsWays tree.now }
-    requires room { excess (part_of tree.now) + greatest_target (targets t) ≤ 2 ^ 124 }
-    ensures { IfOk result (λ u. out.new ≡ out.old ++ map pos (spec.potentials (part_of tree.now) (targets t))) }
+    requires room { excess (part_of tree.now) + greatest_target (cost_targets t) ≤ 2 ^ 124 }
+    ensures { IfOk result (λ u. out.new ≡ out.old ++ map pos (spec.potentials (part_of tree.now) (cost_targets t))) }
 {
     match tree {
         Tree::Nothing => Ok(()),

@@ -16,7 +16,7 @@ fn turn(c: u128, step: u128, body: &Tree) -> i128
     requires step { step ≤ 2 ^ 124 }
     requires keeps { KeepsWays body.now }
     requires body { cap_cost (part_of body.now) ≤ 2 ^ 126 }
-    ensures { result ≡ pos (spec.turn_cost (c + step) (spec.back (spec.dearest_ways (part_of body.now)))) }
+    ensures { result ≡ pos (spec.turn_cost (c + step) (spec.way_back (spec.dearest_ways (part_of body.now)))) }
 {
     turn_multiplier(c + step, dearest_ways(body))
 }

@@ -7,18 +7,18 @@ use Rattle.c_tree.specs.declared.program.BlockName.{BlockName}
 use Rattle.c_tree.specs.declared.program.Func.{Func}
 use Rattle.c_tree.specs.declared.program.Program.{Program}
 use Rattle.c_tree.specs.declared.program.Costs.{Costs}
-use Rattle.c_tree.specs.Layouts.{Shape, global_shapes}
-use Rattle.c_tree.specs.Spans.{span_at, func_span, spans}
-use Rattle.c_tree.specs.WellFormed.{WellFormedFuncs, WellFormed}
+use Rattle.c_tree.specs.Keeping.Layouts.{Shape, global_shapes}
+use Rattle.c_tree.specs.Meaning.Spans.{span_at, func_span, spans}
+use Rattle.c_tree.specs.Keeping.WellFormed.{WellFormedFuncs, WellFormed}
 use Rattle.flow_laws.specs.declared.graph.Way.{Way}
 use Rattle.flow_laws.specs.declared.graph.Way.TheVariants.{Next, True, False}
 use Rattle.flow_laws.specs.declared.graph.Edge.{Edge}
 use Rattle.flow_laws.specs.Sites.{Content, Entry, Exit, Simple, Test, Jump, Give, Enter, Missing, Land, Site}
 use Rattle.flow_laws.specs.Graphs.{leaves, outs, edges_from, graph, edges}
 use Rattle.flow_laws.specs.Paths.{cap_of_copy, copy_caps, cost_of_block, cost_of_edge, cost_of_site, cap_of}
-use Rattle.flow_laws.proofs.CapSums.{caps_are_span}
-use Rattle.typed_laws.proofs.SpansOfFunctions.{spans_more}
+use Rattle.flow_laws.proofs.Caps.CapsSumToSpan.{caps_are_span}
 use Rattle.ipet_rows.specs.CapsBound.{cap_of_edge, cost_at_caps, caps_bound, AreSmall}
+use Rattle.c_tree.proofs.FunctionSpans.{spans-push}
 
 -- ---- spans
 
@@ -34,7 +34,7 @@ one_more (s ∷ ss) m h k (suc g) = one_more ss m (λ n. h (suc n)) k g
 all_spans : (globals : List Shape) (above fs : List Func) (ss : List ℕ) → ss ≡ spans [] above → AreSpans ss → WellFormedFuncs globals above fs → AreSpans (spans ss fs)
 all_spans globals above [] ss is h w = h
 all_spans globals above (f ∷ fs) ss is h w =
-    let next : ss ++ func_span ss f ∷ [] ≡ spans [] (above ++ f ∷ []) = ap (λ y. y ++ func_span y f ∷ []) is ∙ sym (spans_more [] above f) in
+    let next : ss ++ func_span ss f ∷ [] ≡ spans [] (above ++ f ∷ []) = ap (λ y. y ++ func_span y f ∷ []) is ∙ sym (spans-push [] above f) in
     let own : func_span ss f ≤ 2 ^ 64 = subst (λ y. func_span y f ≤ 2 ^ 64) (sym is) w.0.span in
     all_spans globals (above ++ f ∷ []) fs (ss ++ func_span ss f ∷ []) next (one_more ss (func_span ss f) h own) w.1
 

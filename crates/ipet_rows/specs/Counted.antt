@@ -6,11 +6,11 @@ use Rattle.flow_laws.specs.Graphs.{graph}
 use Rattle.flow_laws.specs.Paths.{price}
 use Rattle.lin_rows.specs.declared.count_box.CountBox.{CountBox}
 use Rattle.lin_rows.specs.Vectors.{IsInBox}
-use Rattle.ipet_rows.specs.Counts.{counts}
+use Rattle.ipet_rows.specs.Counts.{edge_counts}
 use Rattle.ipet_rows.specs.Optimum.{MeetFlowRows, cost_of_counts}
 
 -- the counts of the list lie in the box, meet every row of the graph, and cost what the list does
 pub record IsCounted (p : Program) (t : Costs) (within : CountBox) (q : List ℕ) : Type 0 where
-  pub boxed : IsInBox within (counts p q)
-  pub met : MeetFlowRows (graph p) (counts p q)
-  pub priced : cost_of_counts t (graph p) (counts p q) ≡ price t (graph p) q
+  pub boxed : IsInBox within (edge_counts p q)
+  pub met : MeetFlowRows (graph p) (edge_counts p q)
+  pub priced : cost_of_counts t (graph p) (edge_counts p q) ≡ price t (graph p) q

@@ -1,10 +1,31 @@
 -- The rows of implicit path enumeration over the edges of a flat graph (Li and Malik).
-use Rattle.std.specs.Prelude.{ℕ, zero, suc, ◌+◌, ◌-◌, ℤ, pos, negsuc, ◌-ℤ◌, ◌*ℤ◌, ◌==◌, Bool, true, false, List, [], ◌∷◌, ◌++◌, length, map}
+use Rattle.std.specs.Prelude.{
+  ℕ,
+  zero,
+  suc,
+  ◌+◌,
+  ◌-◌,
+  ℤ,
+  pos,
+  negsuc,
+  ◌-ℤ◌,
+  ◌*ℤ◌,
+  ◌==◌,
+  Bool,
+  true,
+  false,
+  List,
+  [],
+  ◌∷◌,
+  ◌++◌,
+  length,
+  map,
+}
 use Rattle.flow_laws.specs.declared.graph.Edge.{Edge}
 use Rattle.flow_laws.specs.declared.graph.Loop.{Loop}
 use Rattle.flow_laws.specs.Sites.{Site}
 use Rattle.flow_laws.specs.Graphs.{edges, loops}
-use Rattle.flow_laws.specs.Paths.{is_among, most_turns}
+use Rattle.flow_laws.specs.Paths.{is_in_list, most_turns}
 use Rattle.lin_rows.specs.declared.row.RowKind.TheVariants.{AtMost, Equal}
 use Rattle.lin_rows.specs.declared.row.Row.{Row}
 
@@ -32,7 +53,7 @@ node_factor n i e = one_if (e.from == n) -ℤ one_if (e.to == n)
 
 -- `turn`, minus the bound times each edge of `into`; of `do` the bound less one
 abbrev pub turn_factor : Loop → ℕ → ℤ
-turn_factor l i = one_if (i == l.turn) -ℤ pos (most_turns l) *ℤ one_if (is_among i l.into)
+turn_factor l i = one_if (i == l.turn) -ℤ pos (most_turns l) *ℤ one_if (is_in_list i l.into)
 
 abbrev pub loop_factor : Loop → ℕ → Edge → ℤ
 loop_factor l i e = turn_factor l i

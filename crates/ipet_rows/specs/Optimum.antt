@@ -1,5 +1,6 @@
--- The optimum of implicit path enumeration (Li and Malik): the greatest cost of counts that meet the rows of a program's graph. It is a
--- maximum over all lists of whole counts, one for each edge, and not over paths; the rows are the graph's own.
+-- The optimum of implicit path enumeration (Li and Malik): the greatest cost of counts that meet the rows of a
+-- program's graph. It is a maximum over all lists of whole counts, one for each edge, and not over paths; the rows are
+-- the graph's own.
 use Rattle.std.specs.Prelude.{◌≡◌, ◌≤◌, ℕ, List, length, All}
 use Rattle.c_tree.specs.declared.program.Costs.{Costs}
 use Rattle.c_tree.specs.declared.program.Program.{Program}

@@ -14,8 +14,8 @@ pub record PlanRows : Type 0 where
   pub rows : List Row
   pub costs : List ℕ
 
--- what sound rows keep: the counts of each driven path meet them, they name edges of the plan, none twice in a row, and each edge has its
--- cost
+-- what sound rows keep: the counts of each driven path meet them, they name edges of the plan, none twice in a row,
+-- and each edge has its cost
 pub record AreSoundRows (s : PlanRows) : Type 0 where
   pub hold : HoldOnPaths s.plan.program s.rows
   pub below : All (λ row. NamesBelow (length (edges (graph s.plan.program))) row.terms) s.rows

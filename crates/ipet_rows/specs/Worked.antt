@@ -2,16 +2,16 @@
 use Rattle.std.specs.Prelude.{ℕ, ℤ, pos, neg_ℤ, List, [], ◌∷◌}
 use Rattle.c_tree.specs.declared.program.Program.{Program}
 use Rattle.c_tree.specs.declared.tree.Stmt.TheVariants.{Do}
-use Rattle.c_tree.specs.Worked.{num, returns, main_of}
+use Rattle.c_tree.specs.Meaning.Worked.{num, returns, main_of}
 use Rattle.lin_rows.specs.declared.row.RowKind.TheVariants.{AtMost, Equal}
 use Rattle.lin_rows.specs.declared.row.Row.{Row}
 
 -- the term of an edge, with a factor k or -k
-abbrev pub plus : ℕ → ℕ → ℕ × ℤ
-plus e k = (e, pos k)
+abbrev pub plus_term : ℕ → ℕ → ℕ × ℤ
+plus_term e k = (e, pos k)
 
-abbrev pub minus : ℕ → ℕ → ℕ × ℤ
-minus e k = (e, neg_ℤ (pos k))
+abbrev pub minus_term : ℕ → ℕ → ℕ × ℤ
+minus_term e k = (e, neg_ℤ (pos k))
 
 abbrev pub equal : List (ℕ × ℤ) → ℕ → Row
 equal terms n = record { terms = terms; kind = Equal; right = pos n }

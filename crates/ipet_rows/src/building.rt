@@ -35,7 +35,8 @@ fn entry_row(alloc: Global) -> Result<Row, NoMemory>
 }
 
 fn push_node_rows(alloc: Global, plan: &Plan, rows: &mut Items<Row>) -> Result<(), NoMemory>
-    ensures { IfOk result (λ u. rows.new ≡ rows.old ++ node_rows (edges (graph plan.now.program)) 2 (length (graph plan.now.program) - 2)) }
+    ensures { IfOk result (λ u. rows.new ≡ rows.old ++ node_rows (edges (graph plan.now.program)) 2
+        (length (graph plan.now.program) - 2)) }
 {
     for n in 2..plan.nodes() {
         rows.push(node_row(alloc, plan, n)?)?;
@@ -59,7 +60,8 @@ fn node_row(alloc: Global, plan: &Plan, n: u32) -> Result<Row, NoMemory>
 }
 
 fn push_loop_rows(alloc: Global, plan: &Plan, rows: &mut Items<Row>) -> Result<(), NoMemory>
-    ensures { IfOk result (λ u. rows.new ≡ rows.old ++ loop_rows (edges (graph plan.now.program)) (loops (graph plan.now.program))) }
+    ensures { IfOk result (λ u. rows.new ≡ rows.old ++ loop_rows (edges (graph plan.now.program))
+        (loops (graph plan.now.program))) }
 {
     for l in plan.loops() {
         rows.push(loop_row(alloc, plan, l)?)?;
@@ -84,7 +86,8 @@ fn loop_row(alloc: Global, plan: &Plan, l: &Loop) -> Result<Row, NoMemory>
 
 /// The cost of each edge.
 pub(crate) fn edge_costs(alloc: Global, plan: &Plan) -> Result<Items<u64>, NoMemory>
-    ensures { IfOk result (λ costs. costs ≡ costs_of_edges plan.now.costs (graph plan.now.program) (edges (graph plan.now.program))) }
+    ensures { IfOk result (λ costs. costs ≡ costs_of_edges plan.now.costs (graph plan.now.program)
+        (edges (graph plan.now.program))) }
 {
     let mut costs = Items::new(alloc);
     for e in 0..plan.edges() as u16 {

@@ -1,7 +1,7 @@
 //! The box of the caps.
 
 ghost use Rattle.std.specs.Prelude.{◌≡◌, ◌≤◌, ◌<◌, ◌^◌, length, slice_get, IfOk};
-ghost use Rattle.c_tree.specs.WellFormed.{WellFormed};
+ghost use Rattle.c_tree.specs.Keeping.WellFormed.{WellFormed};
 ghost use Rattle.flow_laws.specs.Graphs.{graph, edges};
 ghost use Rattle.ipet_rows.specs.CapsBound.{cap_at, caps_of_edges};
 

@@ -40,9 +40,10 @@ impl<'p> Model for SoundRows<'p> {
     ghost invariant = { λ s. AreSound s.plan.now s.rows s.objective.costs };
 }
 
-/// The rows of a plan, in this order: edge 0 is taken once; for each node from 2 on, what leaves it minus what enters it is 0;
-/// for each loop copy, `turn` minus the bound times `into` is at most 0, where `do` has the bound less one. Terms stand by their
-/// edges in ascending order; an edge from a node to itself has none in that node's row, and a factor 0 gives none.
+/// The rows of a plan, in this order: edge 0 is taken once; for each node from 2 on, what leaves it minus what enters
+/// it is 0; for each loop copy, `turn` minus the bound times `into` is at most 0, where `do` has the bound less one.
+/// Terms stand by their edges in ascending order; an edge from a node to itself has none in that node's row, and a
+/// factor 0 gives none.
 pub fn rows<'p>(alloc: Global, plan: &'p Plan) -> Result<SoundRows<'p>, NoMemory>
     ensures plan { IfOk result (λ s. s.plan ≡ plan.now) }
     ensures rows { IfOk result (λ s. s.rows ≡ flow_rows (graph plan.now.program)) }
@@ -82,7 +83,8 @@ impl<'p> SoundRows<'p> {
     /// The cost of each edge: that of its source's block, and 0 for Entry and landings.
     pub fn objective(&self) -> &Objective
         ensures value { result.now.costs ≡ self.now.costs }
-        ensures costs { self.now.costs ≡ costs_of_edges self.now.plan.costs (graph self.now.plan.program) (edges (graph self.now.plan.program)) }
+        ensures costs { self.now.costs ≡ costs_of_edges self.now.plan.costs (graph self.now.plan.program)
+            (edges (graph self.now.plan.program)) }
     {
         &self.objective
     }
@@ -111,7 +113,8 @@ impl<'p> Model for SoundRow<'p> {
 }
 
 impl<'p> SoundRow<'p> {
-    /// This row, which names only edges of the plan, none twice, and which the counts of each driven path of the plan meet.
+    /// This row, which names only edges of the plan, none twice, and which the counts of each driven path of the plan
+    /// meet.
     pub fn of(plan: &'p Plan, row: Row) -> SoundRow<'p>
         requires holds { HoldsOnPaths plan.now.program row }
         requires below { NamesBelow (length (edges (graph plan.now.program))) row.terms }

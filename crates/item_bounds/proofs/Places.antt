@@ -3,8 +3,9 @@ use Rattle.std.proofs.Common.{◌≡◌, ◌≤◌, ◌<◌, ℕ, zero, suc, Lis
 use Rattle.std.specs.Prelude.{slice_get, IsSomeAnd}
 use Rattle.std.specs.List.{AllZip}
 use Rattle.race_item.specs.Lists.{EachOf}
-use Rattle.count_box.proofs.Limits.{AllZip-length, AllZip-at}
+use Rattle.count_box.proofs.Limits.{AllZip-at}
 use Rattle.count_box.proofs.Kept.{Holds}
+use Rattle.plain_laws.proofs.Zips.{AllZip-length}
 
 -- there is a count, and it is so
 pub count_is : (P : ℕ → Type 0) (x : List ℕ) (e : ℕ) → IsSomeAnd (slice_get x e) P → (e < length x) × P (get_or x e 0)

@@ -1,10 +1,11 @@
--- The vectors of counts that an item leaves: those in its box that are at least the counts of its prefix and meet the rows.
+-- The vectors of counts that an item leaves: those in its box that are at least the counts of its prefix and meet the
+-- rows.
 use Rattle.std.specs.Prelude.{◌≤◌, ℕ, List, slice_get, IsSomeAnd, All}
 use Rattle.c_tree.specs.declared.program.Program.{Program}
 use Rattle.lin_rows.specs.Meeting.{MeetsRow}
 use Rattle.lin_rows.specs.Vectors.{IsInBox as HasInBox}
 use Rattle.lin_rows.specs.declared.count_box.CountBox.{CountBox}
-use Rattle.ipet_rows.specs.Counts.{counts}
+use Rattle.ipet_rows.specs.Counts.{edge_counts}
 use Rattle.ipet_rows.specs.Sound.{PlanRows}
 use Rattle.race_item.specs.declared.region.Cut.{Cut}
 use Rattle.race_item.specs.Regions.{IsInBox}
@@ -20,7 +21,7 @@ HasMost x edge most = IsSomeAnd (slice_get x edge) (λ n. n ≤ most)
 -- the vector lies in the box of the cuts, is at least the counts of the prefix, and meets the rows
 pub record IsLeft (rows : PlanRows) (cuts : List Cut) (prefix x : List ℕ) : Type 0 where
   pub inside : IsInBox rows.plan.program cuts x
-  pub least : IsAtLeast x (counts rows.plan.program prefix)
+  pub least : IsAtLeast x (edge_counts rows.plan.program prefix)
   pub meets : All (MeetsRow x) rows.rows
 
 -- the box has each of them

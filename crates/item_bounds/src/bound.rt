@@ -12,8 +12,9 @@ use lin_rows::{CountBox, Multipliers};
 use race_item::Cut;
 use std::alloc::Global;
 
-/// The dual value of the multipliers over the box, at most `most`; 0 where it is negative, since then the box has no vector
-/// that meets the rows; and `most` where the multipliers do not fit the rows or a step leaves `i128`. It takes no memory.
+/// The dual value of the multipliers over the box, at most `most`; 0 where it is negative, since then the box has no
+/// vector that meets the rows; and `most` where the multipliers do not fit the rows or a step leaves `i128`. It takes
+/// no memory.
 pub fn bound_by(rows: &SoundRows, within: &CountBox, by: &Multipliers, most: u128) -> u128
     requires { length within.now.limits ≡ length (edges (graph rows.now.plan.program)) }
     ensures most { result ≤ most }
@@ -29,8 +30,9 @@ pub fn bound_by(rows: &SoundRows, within: &CountBox, by: &Multipliers, most: u12
     }
 }
 
-/// A bound on what the driven paths within the cuts that begin with the prefix cost, at most `most`: the least of the dual
-/// values of these multipliers over the box that the item leaves, and 0 where it leaves none. `NoMemory` is want of memory.
+/// A bound on what the driven paths within the cuts that begin with the prefix cost, at most `most`: the least of the
+/// dual values of these multipliers over the box that the item leaves, and 0 where it leaves none. `NoMemory` is want
+/// of memory.
 pub fn bound_left(
     alloc: Global,
     rows: &SoundRows,

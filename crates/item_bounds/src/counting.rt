@@ -2,7 +2,7 @@
 
 ghost use Rattle.std.specs.Prelude.{◌≡◌, ◌≤◌, ◌+◌, ◌==◌, ℕ, length, slice_index, if◌then◌else◌, IfOk};
 ghost use Rattle.flow_laws.specs.Graphs.{graph, edges};
-ghost use Rattle.flow_laws.specs.Paths.{count};
+ghost use Rattle.flow_laws.specs.Paths.{edge_count};
 
 use c_tree::NoMemory;
 use flow_graph::Plan;
@@ -12,7 +12,7 @@ use std::alloc::Global;
 // For each edge of the plan a count that is at most that of the list: the same, unless it leaves `u64`.
 pub(crate) fn counts_of(alloc: Global, plan: &Plan, list: &[u16]) -> Result<Items<u64>, NoMemory>
     ensures edges { IfOk result (λ ns. length ns ≡ length (edges (graph plan.now.program))) }
-    ensures most { IfOk result (λ ns. (e : ℕ) → slice_index ns e ≤ count list.now e) }
+    ensures most { IfOk result (λ ns. (e : ℕ) → slice_index ns e ≤ edge_count list.now e) }
 {
     let mut counts = zeros(alloc, plan.edges())?;
     for e in list {

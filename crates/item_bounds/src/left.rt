@@ -21,8 +21,8 @@ use std::alloc::Global;
 /// How often a box is narrowed by all rows at most.
 const TIMES: u32 = 3;
 
-/// A box of counts that has each vector which lies between 0 and the caps and within the cuts, is at least the counts of
-/// the prefix and meets the rows; or `None`, and then there is no such vector. `NoMemory` is want of memory.
+/// A box of counts that has each vector which lies between 0 and the caps and within the cuts, is at least the counts
+/// of the prefix and meets the rows; or `None`, and then there is no such vector. `NoMemory` is want of memory.
 ///
 /// The time grows with the edges, the prefix, and a few steps for each term of the rows.
 pub fn counts_left(
@@ -32,7 +32,8 @@ pub fn counts_left(
     prefix: &[u16],
 ) -> Result<Option<CountBox>, NoMemory>
     ensures some { IfOk result (λ o. IfSome o (λ within. HoldsLeft rows.now cuts.now prefix.now within)) }
-    ensures limits { IfOk result (λ o. IfSome o (λ within. length within.limits ≡ length (edges (graph rows.now.plan.program)))) }
+    ensures limits { IfOk result (λ o. IfSome o (λ within. length within.limits
+        ≡ length (edges (graph rows.now.plan.program)))) }
     ensures none { IfOk result (λ o. IfNone o (LeavesNone rows.now cuts.now prefix.now)) }
 {
     let counts = counts_of(alloc, rows.plan(), prefix)?;
@@ -46,8 +47,10 @@ pub fn counts_left(
 // Narrows the box by the cuts, to counts that are at least these, and by the rows.
 fn narrowed(rows: &Rows, within: &mut CountBox, cuts: &[Cut], least: &[u64]) -> Tight
     requires { length within.old.limits ≡ rows.now.edges }
-    ensures narrowed { result ≡ Tight.Narrowed → Narrows (λ x. EachOf (IsWithin x) cuts.now × IsAtLeast x least.now × Meets rows.now x) within.old within.new }
-    ensures empty { result ≡ Tight.Empty → (x : List ℕ) → IsInBox within.old x → EachOf (IsWithin x) cuts.now → IsAtLeast x least.now → ¬ Meets rows.now x }
+    ensures narrowed { result ≡ Tight.Narrowed → Narrows (λ x. EachOf (IsWithin x) cuts.now × IsAtLeast x least.now
+        × Meets rows.now x) within.old within.new }
+    ensures empty { result ≡ Tight.Empty → (x : List ℕ) → IsInBox within.old x → EachOf (IsWithin x) cuts.now
+        → IsAtLeast x least.now → ¬ Meets rows.now x }
 {
     match cut_all(within, cuts) {
         Tight::Empty => return Tight::Empty,

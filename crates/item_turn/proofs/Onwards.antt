@@ -5,28 +5,29 @@ use Rattle.std.proofs.lemmas.Bool.{false≢true, eqb-true}
 use Rattle.c_tree.specs.declared.program.Program.{Program}
 use Rattle.flow_laws.specs.declared.graph.Edge.{Edge}
 use Rattle.flow_laws.specs.Graphs.{graph, edges, loops}
-use Rattle.flow_laws.specs.Paths.{keeps_each, follows, count, IsPath}
+use Rattle.flow_laws.specs.Paths.{keeps_each, follows, edge_count, IsPath}
 use Rattle.flow_laws.specs.Claims.{IsDriven}
-use Rattle.flow_laws.proofs.Prefixes.{each_is}
-use Rattle.flow_laws.proofs.BoundsOn.{each_begin}
-use Rattle.flow_laws.proofs.Joining.{counts_join}
+use Rattle.flow_laws.proofs.Driving.DrivenPrefixes.{each_is}
+use Rattle.flow_laws.proofs.Driving.BoundsStep.{each_begin}
+use Rattle.flow_laws.proofs.Counts.ListsJoined.{counts_join}
 use Rattle.flow_graph.specs.Plans.{Planned}
 use Rattle.path_walk.specs.declared.next.Next.{Next}
 use Rattle.path_walk.specs.declared.next.Next.TheVariants as next
 use Rattle.path_walk.specs.Walks.{IsForced, IsDead, IsAnswer}
 use Rattle.cond_laws.specs.Weights.{weight, sum_weight, edge_weight}
-use Rattle.ipet_rows.specs.Counts.{counts}
+use Rattle.ipet_rows.specs.Counts.{edge_counts}
 use Rattle.race_item.specs.declared.region.Cut.{Cut}
 use Rattle.race_item.specs.declared.region.Region.{Region}
 use Rattle.race_item.specs.Regions.{Covers, IsFront, IsInBox, upper_limit}
 use Rattle.race_item.specs.Facts.{IsRefuted, IsHeavy}
 use Rattle.race_item.specs.Forks.{IsWithinLimits, IsRoomBehind}
 use Rattle.race_item.proofs.Boxes.{count_within}
-use Rattle.race_item.proofs.Fronts.{driven_may, step_on}
+use Rattle.race_item.proofs.Fronts.{driven_may}
 use Rattle.race_item.proofs.Named.{all_named}
 use Rattle.race_item.proofs.Extended.{may_go, may_follow, must_go}
 use Rattle.race_item.proofs.Forced.{walk_forced}
 use Rattle.item_turn.specs.Stretches.{IsStretch, IsOnFrom, IsOnward, onward_of}
+use Rattle.path_walk.proofs.Covers.{step_on}
 
 -- ---- stretches
 
@@ -63,23 +64,23 @@ beyond [] e is = omega arith
 beyond (d ∷ es) zero is = absurd (cc)
 beyond (d ∷ es) (suc e) is = let rest = beyond es e is in omega (arith, rest)
 
-uncounted : (q : List ℕ) (n e : ℕ) → All (λ j. j < n) q → n ≤ e → count q e ≡ 0
+uncounted : (q : List ℕ) (n e : ℕ) → All (λ j. j < n) q → n ≤ e → edge_count q e ≡ 0
 uncounted [] n e named le = refl
 uncounted (j ∷ q) n e named le =
     let below : j < n = named 0 0 (omega arith) in
     let rest = uncounted q n e (λ k d lt. named (suc k) d (omega arith)) le in
-    elim (j == e) as (λ b. (j == e) ≡ b → (if b then suc (count q e) else count q e) ≡ 0) [
+    elim (j == e) as (λ b. (j == e) ≡ b → (if b then suc (edge_count q e) else edge_count q e) ≡ 0) [
       | true ↦ λ same. let is = eqb-true j e same in absurd (omega (arith, below, le, is))
       | false ↦ λ other. rest
     ] refl
 
-limit_at : (p : Program) (cuts : List Cut) (q w rest : List ℕ) (e : ℕ) → follows (edges (graph p)) q ≡ true → IsInBox p cuts (counts p w) → w ≡ q ++ rest → (o : Option Edge) → slice_get (edges (graph p)) e ≡ o → count q e ≤ upper_limit p cuts e
+limit_at : (p : Program) (cuts : List Cut) (q w rest : List ℕ) (e : ℕ) → follows (edges (graph p)) q ≡ true → IsInBox p cuts (edge_counts p w) → w ≡ q ++ rest → (o : Option Edge) → slice_get (edges (graph p)) e ≡ o → edge_count q e ≤ upper_limit p cuts e
 limit_at p cuts q w rest e on inside is None none =
     let zero_times = uncounted q (length (edges (graph p))) e (all_named (edges (graph p)) q on) (beyond (edges (graph p)) e none) in
     omega (arith, zero_times)
 limit_at p cuts q w rest e on inside is (Some d) there =
     let most = count_within p cuts w e d inside there in
-    let joined = subst (λ l. count l e ≡ count q e + count rest e) (sym is) (counts_join q rest e) in
+    let joined = subst (λ l. edge_count l e ≡ edge_count q e + edge_count rest e) (sym is) (counts_join q rest e) in
     omega (arith, most, joined)
 
 pub no_room : (plan : Planned) (r : Region) (q : List ℕ) → IsStretch plan.program r q → ¬ IsWithinLimits plan.program r.cuts q → IsRefuted plan r

@@ -1,11 +1,11 @@
 -- A fork whose stem some input drives splits an item, with children of lower bounds.
 use Rattle.std.proofs.Common.{◌≡◌, inl, inr, ⊎_elim, ℕ, List, [], ◌∷◌, ◌++◌, refl, sym, ap, ◌∙◌, subst, append_assoc}
-use Rattle.c_tree.specs.WellFormed.{WellFormed}
+use Rattle.c_tree.specs.Keeping.WellFormed.{WellFormed}
 use Rattle.flow_laws.specs.Graphs.{graph, loops}
 use Rattle.flow_laws.specs.Driving.{Drives}
 use Rattle.flow_laws.specs.Claims.{IsDriven, IsDrivenList}
-use Rattle.flow_laws.proofs.Prefixes.{driven_front, each_is}
-use Rattle.flow_laws.proofs.KeptCaps.{contiguous_capped}
+use Rattle.flow_laws.proofs.Driving.DrivenPrefixes.{driven_front, each_is}
+use Rattle.flow_laws.proofs.Caps.KeptListsWithinCaps.{contiguous_capped}
 use Rattle.race_item.specs.declared.region.Child.{Child}
 use Rattle.race_item.specs.Lists.{SomeOf}
 use Rattle.race_item.specs.Regions.{region, Covers, MayGoOn, child_of, children_of}

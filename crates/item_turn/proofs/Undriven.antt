@@ -3,21 +3,21 @@
 use Rattle.std.proofs.Common.{◌≡◌, ◌⊎◌, inl, inr, ⊎_elim, ℕ, List, [], ◌∷◌, ◌++◌, refl, sym, ap, ◌∙◌, subst, append_assoc}
 use Rattle.c_tree.specs.declared.program.Program.{Program}
 use Rattle.c_tree.specs.declared.program.Input.{Input}
-use Rattle.c_tree.specs.WellFormed.{WellFormed}
+use Rattle.c_tree.specs.Keeping.WellFormed.{WellFormed}
 use Rattle.flow_laws.specs.Graphs.{graph, edges}
 use Rattle.flow_laws.specs.Paths.{IsPath}
 use Rattle.flow_laws.specs.Driving.{Drives}
 use Rattle.flow_laws.specs.Claims.{IsDriven}
-use Rattle.flow_laws.proofs.Prefixes.{driven_front}
+use Rattle.flow_laws.proofs.Driving.DrivenPrefixes.{driven_front}
 use Rattle.flow_graph.specs.Plans.{Planned}
-use Rattle.ipet_rows.specs.Counts.{counts}
+use Rattle.ipet_rows.specs.Counts.{edge_counts}
 use Rattle.path_formulas.specs.FormulasOfLists.{IsDrivenBy, IsDrivenByNone}
 use Rattle.race_item.specs.declared.region.Region.{Region}
 use Rattle.race_item.specs.Lists.{EachOf}
 use Rattle.race_item.specs.Regions.{IsWithin, Covers}
-use Rattle.race_item.specs.Items.{ItemOf, cost_of}
+use Rattle.race_item.specs.Items.{ItemOf, list_cost}
 use Rattle.race_item.specs.Facts.{IsRefuted, IsFound}
-use Rattle.race_item.specs.Forks.{behind}
+use Rattle.race_item.specs.Forks.{region_behind}
 use Rattle.race_item.specs.Forced.{IsForcedFor}
 use Rattle.race_item.proofs.Boxes.{driven_in_box}
 use Rattle.race_item.proofs.Forced.{past_fork_forced}
@@ -36,12 +36,12 @@ only p r q forced path w driven covers =
     let begins = forced.begins_all w driven covers in
     no_further p q w driven.0 begins.0 path driven.2.drives begins.1
 
-pub outside : (plan : Planned) (r : Region) (q : List ℕ) → IsForcedFor plan.program r q → IsPath (edges (graph plan.program)) q → ¬ EachOf (IsWithin (counts plan.program q)) r.cuts → IsRefuted plan r
+pub outside : (plan : Planned) (r : Region) (q : List ℕ) → IsForcedFor plan.program r q → IsPath (edges (graph plan.program)) q → ¬ EachOf (IsWithin (edge_counts plan.program q)) r.cuts → IsRefuted plan r
 outside plan r q forced path out w driven covers =
     let same = only plan.program r q forced path w driven covers in
-    out (subst (λ l. EachOf (IsWithin (counts plan.program l)) r.cuts) same covers.counts_in.within)
+    out (subst (λ l. EachOf (IsWithin (edge_counts plan.program l)) r.cuts) same covers.counts_in.within)
 
-pub only_is_found : (item : ItemOf) (q : List ℕ) (i : Input) → WellFormed item.rows.plan.program → IsOnlyPath item q → IsDrivenBy item.rows.plan.program q i → IsFound item.rows.plan item.region i (cost_of item.rows.plan q)
+pub only_is_found : (item : ItemOf) (q : List ℕ) (i : Input) → WellFormed item.rows.plan.program → IsOnlyPath item q → IsDrivenBy item.rows.plan.program q i → IsFound item.rows.plan item.region i (list_cost item.rows.plan q)
 only_is_found item q i formed path by =
     let p = item.rows.plan.program in
     let boxed = driven_in_box p q formed (i, by.fitting, record { path = path.is_path; drives = by.driving }) in
@@ -57,7 +57,7 @@ only_is_found item q i formed path by =
 -- ---- sides of a fork
 
 -- the region behind a side that no input drives covers no driven path
-side : (plan : Planned) (r : Region) (stem : List ℕ) (e : ℕ) → IsDrivenByNone plan.program (stem ++ e ∷ []) → IsRefuted plan (behind r stem e)
+side : (plan : Planned) (r : Region) (stem : List ℕ) (e : ℕ) → IsDrivenByNone plan.program (stem ++ e ∷ []) → IsRefuted plan (region_behind r stem e)
 side plan r stem e none w driven covers =
     none driven.0 (record { fitting = driven.1; driving = driven_front plan.program driven.0 (stem ++ e ∷ []) covers.begins.0 (subst (Drives plan.program driven.0) covers.begins.1 driven.2.drives) })
 

@@ -2,7 +2,7 @@
 use Rattle.std.specs.Prelude.{◌≡◌, ◌≤◌, ℕ, List}
 use Rattle.flow_laws.specs.Graphs.{graph, edges}
 use Rattle.flow_laws.specs.Paths.{IsPath}
-use Rattle.ipet_rows.specs.Counts.{counts}
+use Rattle.ipet_rows.specs.Counts.{edge_counts}
 use Rattle.path_formulas.specs.FormulasOfLists.{IsDrivenBy}
 use Rattle.race_item.specs.declared.region.Child.{Child}
 use Rattle.race_item.specs.Lists.{EachOf}
@@ -42,4 +42,4 @@ pub record IsChild (item : ItemOf) (prefix : List ℕ) (c : Child) : Type 0 wher
 pub record IsOnlyPath (item : ItemOf) (q : List ℕ) : Type 0 where
   pub stretch : IsStretch item.rows.plan.program item.region q
   pub is_path : IsPath (edges (graph item.rows.plan.program)) q
-  pub within : EachOf (IsWithin (counts item.rows.plan.program q)) item.region.cuts
+  pub within : EachOf (IsWithin (edge_counts item.rows.plan.program q)) item.region.cuts

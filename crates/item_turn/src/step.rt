@@ -5,7 +5,7 @@ ghost use Rattle.cnf_form.specs.Literals.{most};
 ghost use Rattle.flow_laws.specs.Graphs.{graph, edges};
 ghost use Rattle.flow_laws.specs.Paths.{IsPath};
 ghost use Rattle.path_formulas.specs.FormulasOfLists.{IsDrivenBy};
-ghost use Rattle.race_item.specs.Items.{cost_of};
+ghost use Rattle.race_item.specs.Items.{list_cost};
 ghost use Rattle.race_item.specs.declared.settlement.Conclusion.TheVariants.{Found};
 ghost use Rattle.item_turn.specs.Stretches.{AreFork, IsStretch};
 ghost use Rattle.item_turn.specs.Steps.{IsOf, IsOnlyPath, IsOpen, IsStep};
@@ -140,7 +140,7 @@ pub(crate) fn found<'p>(item: &Item<'p>, path: &[u16], input: Input) -> Settleme
     requires path { IsOnlyPath item.now path.now }
     requires driven { IsDrivenBy item.now.rows.plan.program path.now input }
     ensures item { result.item ≡ item.now }
-    ensures found { result.conclusion ≡ Found input (cost_of item.now.rows.plan path.now) }
+    ensures found { result.conclusion ≡ Found input (list_cost item.now.rows.plan path.now) }
 {
     let plan = item.rows().plan();
     // The program is well-formed.

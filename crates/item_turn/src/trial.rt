@@ -5,7 +5,7 @@ ghost use Rattle.c_tree.specs.declared.program.Input.{Input};
 ghost use Rattle.flow_laws.specs.Graphs.{graph, edges};
 ghost use Rattle.flow_laws.specs.Paths.{follows};
 ghost use Rattle.cnf_form.specs.Literals.{most};
-ghost use Rattle.race_item.specs.Facts.{zeros};
+ghost use Rattle.race_item.specs.Facts.{zero_input};
 ghost use Rattle.item_turn.specs.Trials.{IsTrial};
 
 use c_tree::{Input, NoMemory};
@@ -71,7 +71,7 @@ pub(crate) fn try_list(
 
 // The input of zeros.
 fn zeros(alloc: Global, plan: &Plan) -> Result<Input, NoMemory>
-    ensures { IfOk result (λ i. i ≡ zeros plan.now.program) }
+    ensures { IfOk result (λ i. i ≡ zero_input plan.now.program) }
 {
     let start = condition(alloc, plan, &[])?;
     let values = vec![in alloc; 0i64; start.terms.inputs().len()]?;

@@ -12,8 +12,9 @@ use race_item::{Item, Limits, Refuter, Settlement};
 use sqlite_items::Items;
 use std::alloc::Global;
 
-/// Takes turns on the items of some rows: it refutes an item, splits it, finds its dearest run, or parks it. It keeps an
-/// input that drove an item, and the multipliers of the plan's optimum once it has made them; no contract speaks of these.
+/// Takes turns on the items of some rows: it refutes an item, splits it, finds its dearest run, or parks it. It keeps
+/// an input that drove an item, and the multipliers of the plan's optimum once it has made them; no contract speaks of
+/// these.
 #[derive(Drop)]
 pub struct Turner<'p> {
     rows: &'p SoundRows<'p>,

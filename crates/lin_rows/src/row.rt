@@ -44,7 +44,8 @@ impl Row {
     }
 }
 
-/// Rows over the edges from 0 up to, and without, `edges`. Each term names one of these, and no row names an edge twice.
+/// Rows over the edges from 0 up to, and without, `edges`. Each term names one of these, and no row names an edge
+/// twice.
 #[derive(Debug, Drop)]
 pub struct Rows {
     pub rows: Items<Row>,
@@ -56,7 +57,8 @@ pub struct Rows {
 impl Rows {
     /// These rows over so many edges, or `None` exactly where a term names none of them or a row names one twice.
     pub fn new(rows: Vec<Row>, edges: u32) -> Option<Rows>
-        ensures made { IsSome result ↔ (All (λ row. NamesBelow edges row.terms) rows.items × All (λ row. NamesOnce row.terms) rows.items) }
+        ensures made { IsSome result ↔ (All (λ row. NamesBelow edges row.terms) rows.items
+            × All (λ row. NamesOnce row.terms) rows.items) }
         ensures rows { IfSome result (λ made. made.rows ≡ rows.items) }
         ensures edges { IfSome result (λ made. made.edges ≡ edges) }
     {
@@ -78,7 +80,8 @@ impl Rows {
 
 // Whether each row names only edges below `edges`, and none twice.
 fn names_fit(rows: &[Row], edges: u32) -> bool
-    ensures { IsTrue result ↔ (All (λ row. NamesBelow edges row.terms) rows.now × All (λ row. NamesOnce row.terms) rows.now) }
+    ensures { IsTrue result ↔ (All (λ row. NamesBelow edges row.terms) rows.now × All (λ row. NamesOnce row.terms)
+        rows.now) }
 {
     for row in rows {
         if !names_below(row.terms(), edges) || !names_once(row.terms()) {

@@ -1,10 +1,10 @@
 -- Acting does not look at the loop of a condition.
 use Rattle.std.proofs.Common.{◌≡◌, refl}
 use Rattle.flow_laws.specs.Sites.{Content, Entry, Exit, Simple, Test, Jump, Give, Enter, Missing, Land}
-use Rattle.flow_laws.specs.Driving.{Memory, act}
+use Rattle.flow_laws.specs.Driving.{Memory, content_move}
 use Rattle.flow_laws.specs.BlockLists.{plain}
 
-pub acting : (c : Content) (m : Memory) → act (plain c) m ≡ act c m
+pub acting : (c : Content) (m : Memory) → content_move (plain c) m ≡ content_move c m
 acting Entry m = refl
 acting Exit m = refl
 acting (Simple ss) m = refl

@@ -6,8 +6,8 @@ use Rattle.c_tree.specs.declared.tree.Stmt.{Stmt}
 use Rattle.c_tree.specs.declared.tree.Stmt.TheVariants.{Call, Break, Continue, Return, If, While, Do, For, Group}
 use Rattle.c_tree.specs.declared.tree.Stmt.TheBlock.{shape-the_row-Stmt-0, hidden-the_row-Stmt-0, shape-the_row-Stmt-1, hidden-the_row-Stmt-1, back-Stmt-For-1}
 use denote.Hole.Carrier.{hidden}
-use Rattle.c_tree.specs.Blocks.{is_simple}
-use Rattle.c_tree.specs.Statements.{held}
+use Rattle.c_tree.specs.Meaning.Blocks.{is_simple}
+use Rattle.c_tree.specs.Meaning.Statements.{held_stmts}
 use Rattle.flow_laws.specs.BlockLists.{Asks, Jumps, Gives, Calls, block_of_run, blocks_of_stmt, blocks_of_row, blocks_of_held, blocks_of_list}
 
 row_is : (ss xs : List Stmt) → blocks_of_row ss (hidden-the_row-Stmt-0 xs) ≡ blocks_of_list ss xs
@@ -15,7 +15,7 @@ unfolding blocks_of_stmt blocks_of_row shape-the_row-Stmt-0 hidden-the_row-Stmt-
 row_is ss [] = refl
 row_is ss (x ∷ xs) = λ i. if is_simple x then row_is (ss ++ x ∷ []) xs i else block_of_run ss ++ (blocks_of_stmt x ++ row_is [] xs i)
 
-held_is : (o : Option Stmt) → blocks_of_held (back-Stmt-For-1 o) ≡ blocks_of_list [] (held o)
+held_is : (o : Option Stmt) → blocks_of_held (back-Stmt-For-1 o) ≡ blocks_of_list [] (held_stmts o)
 unfolding blocks_of_stmt blocks_of_row blocks_of_held shape-the_row-Stmt-1 hidden-the_row-Stmt-1 hidden
 held_is None = refl
 held_is (Some a) = refl
@@ -48,7 +48,7 @@ pub blocks_of_stmt-Do : (k : ℕ) (xs : List Stmt) (e : Expr) → blocks_of_stmt
 unfolding blocks_of_stmt
 blocks_of_stmt-Do k xs e = ap (λ ps. ps ++ Asks e ∷ []) (row_is [] xs)
 
-pub blocks_of_stmt-For : (k : ℕ) (i j : Option Stmt) (e : Expr) (xs : List Stmt) → blocks_of_stmt (For k i e j xs) ≡ blocks_of_list [] (held i) ++ (Asks e ∷ (blocks_of_list [] (held j) ++ blocks_of_list [] xs))
+pub blocks_of_stmt-For : (k : ℕ) (i j : Option Stmt) (e : Expr) (xs : List Stmt) → blocks_of_stmt (For k i e j xs) ≡ blocks_of_list [] (held_stmts i) ++ (Asks e ∷ (blocks_of_list [] (held_stmts j) ++ blocks_of_list [] xs))
 unfolding blocks_of_stmt
 blocks_of_stmt-For k i j e xs = λ z. held_is i z ++ (Asks e ∷ (held_is j z ++ row_is [] xs z))
 

@@ -5,9 +5,9 @@ use Rattle.std.proofs.lemmas.List.{drop_all, get_or-drop}
 use Rattle.c_tree.specs.declared.tree.Expr.{Expr}
 use Rattle.c_tree.specs.declared.tree.Stmt.{Stmt}
 use Rattle.c_tree.specs.declared.tree.Stmt.TheVariants.{If, While, Do, For}
-use Rattle.c_tree.specs.Statements.{held}
+use Rattle.c_tree.specs.Meaning.Statements.{held_stmts}
 use Rattle.node_contents.proofs.BlockLayers.{blocks_of_stmt-If, blocks_of_stmt-While, blocks_of_stmt-Do, blocks_of_stmt-For}
-use Rattle.c_tree.specs.Blocks.{is_simple}
+use Rattle.c_tree.specs.Meaning.Blocks.{is_simple}
 use Rattle.flow_laws.specs.BlockLists.{Block, Asks, block_of_run, blocks_of_stmt, blocks_of_list}
 
 -- ---- parts
@@ -20,7 +20,7 @@ three old m n new a b c h k l = two old m new a (b ++ c) h (two m n new b c k l)
 
 -- ---- a list
 
-run_more : (xs : List Stmt) (b i : ℕ) (x : Stmt) → b ≤ i → i < length xs → x ≡ get_or xs i x → take (i + 1 - b) (drop b xs) ≡ take (i - b) (drop b xs) ++ x ∷ []
+pub run_more : (xs : List Stmt) (b i : ℕ) (x : Stmt) → b ≤ i → i < length xs → x ≡ get_or xs i x → take (i + 1 - b) (drop b xs) ≡ take (i - b) (drop b xs) ++ x ∷ []
 run_more xs b i x le lt is =
     let count : i + 1 - b ≡ suc (i - b) = omega arith in
     let at : b + (i - b) ≡ i = omega arith in
@@ -30,7 +30,7 @@ run_more xs b i x le lt is =
 here : (xs : List Stmt) (i : ℕ) (x : Stmt) → i < length xs → x ≡ get_or xs i x → drop i xs ≡ x ∷ drop (i + 1) xs
 here xs i x lt is = rw (add-one, drop-cons xs i x) (ap (λ y. y ∷ drop (suc i) xs) (sym is))
 
-one_list : (ss rest : List Stmt) (x : Stmt) (c : Bool) → is_simple x ≡ c → blocks_of_list ss (x ∷ rest) ≡ (if c then blocks_of_list (ss ++ x ∷ []) rest else block_of_run ss ++ (blocks_of_stmt x ++ blocks_of_list [] rest))
+pub one_list : (ss rest : List Stmt) (x : Stmt) (c : Bool) → is_simple x ≡ c → blocks_of_list ss (x ∷ rest) ≡ (if c then blocks_of_list (ss ++ x ∷ []) rest else block_of_run ss ++ (blocks_of_stmt x ++ blocks_of_list [] rest))
 one_list ss rest x c is = ap (λ d. if d then blocks_of_list (ss ++ x ∷ []) rest else block_of_run ss ++ (blocks_of_stmt x ++ blocks_of_list [] rest)) is
 
 -- with a simple statement
@@ -80,7 +80,7 @@ pub do_blocks : (stmt : Stmt) (b : ℕ) (e : Expr) (xs xs' : List Stmt) (old m n
 do_blocks stmt b e xs xs' old m new is h ex k =
     two old m new (blocks_of_list [] xs) (Asks e ∷ []) (h ∙ ap (λ z. old ++ blocks_of_list [] z) ex) k ∙ ap (λ y. old ++ y) (sym (ap blocks_of_stmt is ∙ blocks_of_stmt-Do b xs e))
 
-pub for_blocks : (stmt : Stmt) (b : ℕ) (i j : Option Stmt) (e : Expr) (xs xs' : List Stmt) (old m n o new : List Block) → stmt ≡ For b i e j xs → m ≡ old ++ blocks_of_list [] (held i) → n ≡ m ++ Asks e ∷ [] → o ≡ n ++ blocks_of_list [] (held j) → new ≡ o ++ blocks_of_list [] xs' → xs' ≡ xs → new ≡ old ++ blocks_of_stmt stmt
+pub for_blocks : (stmt : Stmt) (b : ℕ) (i j : Option Stmt) (e : Expr) (xs xs' : List Stmt) (old m n o new : List Block) → stmt ≡ For b i e j xs → m ≡ old ++ blocks_of_list [] (held_stmts i) → n ≡ m ++ Asks e ∷ [] → o ≡ n ++ blocks_of_list [] (held_stmts j) → new ≡ o ++ blocks_of_list [] xs' → xs' ≡ xs → new ≡ old ++ blocks_of_stmt stmt
 for_blocks stmt b i j e xs xs' old m n o new is h k l p ex =
-    let rest = three m n o new (Asks e ∷ []) (blocks_of_list [] (held j)) (blocks_of_list [] xs) k l (p ∙ ap (λ z. o ++ blocks_of_list [] z) ex) in
-    two old m new (blocks_of_list [] (held i)) (Asks e ∷ (blocks_of_list [] (held j) ++ blocks_of_list [] xs)) h rest ∙ ap (λ y. old ++ y) (sym (ap blocks_of_stmt is ∙ blocks_of_stmt-For b i j e xs))
+    let rest = three m n o new (Asks e ∷ []) (blocks_of_list [] (held_stmts j)) (blocks_of_list [] xs) k l (p ∙ ap (λ z. o ++ blocks_of_list [] z) ex) in
+    two old m new (blocks_of_list [] (held_stmts i)) (Asks e ∷ (blocks_of_list [] (held_stmts j) ++ blocks_of_list [] xs)) h rest ∙ ap (λ y. old ++ y) (sym (ap blocks_of_stmt is ∙ blocks_of_stmt-For b i j e xs))

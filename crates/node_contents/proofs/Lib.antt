@@ -1,6 +1,6 @@
 pub mod BlockLayers
-mod Gathered
+pub mod Gathered
 mod Tabled
-mod Telling
+pub mod Telling
 mod Acting
 pub mod WorkedContents

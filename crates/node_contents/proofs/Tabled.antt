@@ -4,17 +4,17 @@ use Rattle.std.specs.Prelude.{slice_get, map}
 use Rattle.std.proofs.lemmas.List.{map-append}
 use Rattle.c_tree.specs.declared.program.Func.{Func}
 use Rattle.c_tree.specs.declared.program.Program.{Program}
-use Rattle.graph_lists.proofs.Sums.{drop_is}
 use Rattle.flow_laws.specs.BlockLists.{Block, blocks_of_body, blocks_in, blocks_of_func}
 use Rattle.node_contents.specs.declared.block.Block as lent
 use Rattle.node_contents.specs.Contents.{what, what_of}
+use Rattle.plain_laws.proofs.Lists.{drop-read}
 
 -- with one function more
 pub func_step : (funcs : List Func) (i : ℕ) (f : Func) (old new : List (List lent.Block)) (bs : List lent.Block) (whole : List (List Block)) → i < length funcs → f ≡ get_or funcs i f → new ≡ old ++ bs ∷ [] → map what bs ≡ blocks_of_body f → what_of old ++ map blocks_of_body (drop i funcs) ≡ whole
     → what_of new ++ map blocks_of_body (drop (i + 1) funcs) ≡ whole
 func_step funcs i f old new bs whole lt e h same k =
     let rest = map blocks_of_body (drop (i + 1) funcs) in
-    ap (λ y. what_of y ++ rest) h ∙ ap (λ y. y ++ rest) (map-append (λ (y : List lent.Block). map what y) old (bs ∷ [])) ∙ append_assoc (what_of old) (map what bs ∷ []) rest ∙ (λ z. what_of old ++ (same z ∷ rest)) ∙ ap (λ ys. what_of old ++ map blocks_of_body ys) (sym (drop_is funcs i f lt e)) ∙ k
+    ap (λ y. what_of y ++ rest) h ∙ ap (λ y. y ++ rest) (map-append (λ (y : List lent.Block). map what y) old (bs ∷ [])) ∙ append_assoc (what_of old) (map what bs ∷ []) rest ∙ (λ z. what_of old ++ (same z ∷ rest)) ∙ ap (λ ys. what_of old ++ map blocks_of_body ys) (sym (drop-read funcs i f lt e)) ∙ k
 
 map_at : (bs : List lent.Block) (m : ℕ) → slice_get (map what bs) m ≡ option_map what (slice_get bs m)
 map_at [] m = refl

@@ -6,17 +6,17 @@ use Rattle.c_tree.specs.declared.program.Program.{Program}
 use Rattle.flow_laws.specs.declared.graph.Node.{Node}
 use Rattle.flow_laws.specs.Sites.{Content, Site, call_of}
 use Rattle.flow_laws.specs.Graphs.{graph, nodes}
-use Rattle.flow_laws.specs.BlockLists.{Block, Run, Asks, Jumps, Gives, Calls, block_at, plain, block_content, landed, landing_content, bare_content}
-use Rattle.flow_laws.proofs.FoundBlocks.{blocks_found, bare_found}
+use Rattle.flow_laws.specs.BlockLists.{Block, Run, Asks, Jumps, Gives, Calls, block_at, plain, block_content, landing_at_block, landing_content, bare_content}
+use Rattle.flow_laws.proofs.Graphs.FoundBlocks.{blocks_found, bare_found}
 use Rattle.flow_graph.specs.Landings.{calls}
 use Rattle.node_contents.specs.Contents.{contents}
 
-record SiteOf (g : List Site) (n : ℕ) (nd : Node) : Type 0 where
-  site : Site
-  is : slice_get g n ≡ Some site
-  node_is : site.node ≡ nd
+pub record SiteOf (g : List Site) (n : ℕ) (nd : Node) : Type 0 where
+  pub site : Site
+  pub is : slice_get g n ≡ Some site
+  pub node_is : site.node ≡ nd
 
-site_of : (g : List Site) (n : ℕ) (nd : Node) → slice_get (nodes g) n ≡ Some nd → SiteOf g n nd
+pub site_of : (g : List Site) (n : ℕ) (nd : Node) → slice_get (nodes g) n ≡ Some nd → SiteOf g n nd
 site_of [] n nd h = absurd (cc)
 site_of (s ∷ g) zero nd h = let same : s.node ≡ nd = cc in record { site = s; is = refl; node_is = same }
 site_of (s ∷ g) (suc n) nd h = let r = site_of g n nd h in record { site = r.site; is = r.is; node_is = r.node_is }
@@ -38,7 +38,7 @@ named_content p n nd b x h is does =
     content_at (graph p) n r.site r.is ∙ ap Some (found.2 ∙ ap (block_content p b.func) (sym found.1) ∙ sym does)
 
 -- a landing has no condition, and nor has what is no copy of a block
-landed_plain : (p : Program) (b : BlockName) (o : Option Block) → plain (landed p b o) ≡ landed p b o
+landed_plain : (p : Program) (b : BlockName) (o : Option Block) → plain (landing_at_block p b o) ≡ landing_at_block p b o
 landed_plain p b None = refl
 landed_plain p b (Some (Run ss)) = refl
 landed_plain p b (Some (Asks e)) = refl

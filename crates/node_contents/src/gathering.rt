@@ -1,8 +1,8 @@
 //! The blocks of a list of statements, in the order of their numbers.
 
 ghost use Rattle.std.specs.Prelude.{◌≡◌, ◌++◌, ◌∷◌, [], false, map, IfOk};
-ghost use Rattle.c_tree.specs.Blocks.{is_simple};
-ghost use Rattle.c_tree.specs.Statements.{held};
+ghost use Rattle.c_tree.specs.Meaning.Blocks.{is_simple};
+ghost use Rattle.c_tree.specs.Meaning.Statements.{held_stmts};
 ghost use Rattle.flow_laws.specs.BlockLists.{block_of_run, blocks_of_stmt, blocks_of_list, blocks_of_body};
 ghost use Rattle.node_contents.specs.Contents.{what, what_of};
 
@@ -70,7 +70,7 @@ fn gather_held<'p>(
     stmt: &'p Option<Boxed<Stmt>>,
     out: &mut Items<Block<'p>>,
 ) -> Result<(), NoMemory>
-    ensures { IfOk result (λ u. map what out.new ≡ map what out.old ++ blocks_of_list [] (held stmt.now)) }
+    ensures { IfOk result (λ u. map what out.new ≡ map what out.old ++ blocks_of_list [] (held_stmts stmt.now)) }
 {
     match stmt {
         None => Ok(()),

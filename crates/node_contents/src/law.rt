@@ -3,16 +3,16 @@
 ghost use Rattle.std.specs.Prelude.{◌≡◌, [], ◌∷◌, None, Some};
 ghost use Rattle.c_tree.specs.declared.tree.BinOp.TheVariants as bin;
 ghost use Rattle.c_tree.specs.declared.tree.Expr.TheVariants.{Bin};
-ghost use Rattle.c_tree.specs.Worked.{two_thresholds, declares, sets, num, local};
+ghost use Rattle.c_tree.specs.Meaning.Worked.{two_thresholds, declares, sets, num, local};
 ghost use Rattle.flow_laws.specs.Sites.{Content, Entry, Exit, Simple, Test, Give};
 ghost use Rattle.flow_laws.specs.Graphs.{graph};
 ghost use Rattle.flow_laws.specs.BlockLists.{plain};
 ghost use Rattle.node_contents.specs.Contents.{contents};
-ghost use Rattle.flow_laws.specs.Driving.{Memory, act};
+ghost use Rattle.flow_laws.specs.Driving.{Memory, content_move};
 
 /// What a node does to a memory does not depend on the loop of its condition.
 pub fn acting_needs_no_loop()
-    ensures { (c : Content) (m : Memory) → act (plain c) m ≡ act c m }
+    ensures { (c : Content) (m : Memory) → content_move (plain c) m ≡ content_move c m }
 {}
 
 /// Two choices: what each node does.

@@ -4,7 +4,14 @@ ghost use Rattle.std.specs.Prelude.{◌≡◌, ◌<◌, Option, Some, length, sl
 ghost use Rattle.std.specs.Option.{option_copied};
 ghost use Rattle.c_tree.specs.declared.program.BlockName as spec;
 ghost use Rattle.flow_laws.specs.Graphs.{graph};
-ghost use Rattle.flow_laws.specs.BlockLists.{block_at, block_content, bare_content, landing_content, entered, result_of_func};
+ghost use Rattle.flow_laws.specs.BlockLists.{
+  block_at,
+  block_content,
+  bare_content,
+  landing_content,
+  call_content,
+  result_of_func,
+};
 ghost use Rattle.node_contents.specs.Contents.{content_of, contents, what};
 ghost use Rattle.flow_graph.specs.Landings.{calls};
 
@@ -16,8 +23,8 @@ use sqlite_items::Items;
 use std::alloc::Global;
 use std::marker::Model;
 
-/// What each node of a plan does. It owns no statement: for each function it has a table from the number of a block to its place
-/// in the plan's program.
+/// What each node of a plan does. It owns no statement: for each function it has a table from the number of a block to
+/// its place in the plan's program.
 #[derive(Drop)]
 pub struct Contents<'p> {
     plan: &'p Plan,
@@ -99,7 +106,7 @@ impl<'p> Contents<'p> {
 
     // The call of this function.
     fn entering(&self, target: Target, callee: u32, given: &'p [Expr]) -> Content<'p>
-        ensures { content_of result ≡ entered (slice_get self.now.program.funcs callee) target given.now }
+        ensures { content_of result ≡ call_content (slice_get self.now.program.funcs callee) target given.now }
     {
         match self.func(callee) {
             Some(func) => Content::Enter(target, func.locals.as_slice(), given),
@@ -110,7 +117,8 @@ impl<'p> Contents<'p> {
     // What a node without a block does.
     fn of_bare(&self, n: u32) -> Content<'p>
         requires { n < length (graph self.now.program) }
-        ensures { (call : Option spec.BlockName) → slice_get (calls (graph self.now.program)) n ≡ Some call → content_of result ≡ bare_content self.now.program n call }
+        ensures { (call : Option spec.BlockName) → slice_get (calls (graph self.now.program)) n ≡ Some call
+            → content_of result ≡ bare_content self.now.program n call }
     {
         match n {
             0 => Content::Entry,

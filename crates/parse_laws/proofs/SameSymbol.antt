@@ -10,7 +10,7 @@ use Rattle.c_tree.specs.declared.tree.BinOp.{BinOp}
 use Rattle.c_tree.specs.contracts.symbol.Symbol as of
 use Rattle.c_tree.specs.contracts.tree.BinOp as operator
 use Rattle.c_tree.specs.contracts.tree.BinOpPartialEq.TheImpl as derived
-use Rattle.parse_laws.specs.Same.{same}
+use Rattle.parse_laws.specs.Same.{is_same_symbol}
 
 -- at each variant with fields, what compares equal is equal, and the other way round
 abbrev Tells : (Fss : List (List Field)) → Each Bool Fss → Type 0
@@ -59,8 +59,8 @@ tells = tells_alone (tells_alone (tells_alone (tells_alone (tells_alone (tells_a
     tells_alone (tells_alone (tells_alone (tells_alone (tells_alone (tells_alone (tells_alone (tells_alone (tells_alone (tells_alone (tells_alone (tells_alone (tells_alone (tells_alone (
     tells_operator (tells_operator (tells_operator (tells_alone (tells_alone (tells_alone (tells_alone (tt)))))))))))))))))))))))))))))))))))
 
-pub same-true : (a b : Symbol) → same a b ≡ true → a ≡ b
-same-true a b h = sym (of.the_eta a) ∙ ap of.the_make (by-true of.the_parts each tells (of.as_values a) (of.as_values b) h) ∙ of.the_eta b
+pub is_same_symbol-true : (a b : Symbol) → is_same_symbol a b ≡ true → a ≡ b
+is_same_symbol-true a b h = sym (of.the_eta a) ∙ ap of.the_make (by-true of.the_parts each tells (of.as_values a) (of.as_values b) h) ∙ of.the_eta b
 
-pub same-yes : (a b : Symbol) → a ≡ b → same a b ≡ true
-same-yes a b h = subst (λ (x : Symbol). same a x ≡ true) h (by-refl of.the_parts each tells (of.as_values a))
+pub is_same_symbol-yes : (a b : Symbol) → a ≡ b → is_same_symbol a b ≡ true
+is_same_symbol-yes a b h = subst (λ (x : Symbol). is_same_symbol a x ≡ true) h (by-refl of.the_parts each tells (of.as_values a))

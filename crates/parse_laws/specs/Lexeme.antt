@@ -2,12 +2,12 @@
 use Rattle.c_tree.specs.declared.unit.RawBound.{RawBound}
 use Rattle.c_tree.specs.declared.unit.RawExpr.{RawExpr}
 use Rattle.c_tree.specs.declared.unit.RawExpr.TheVariants as e
-use Rattle.c_tree.specs.Symbols.{Lexeme}
+use Rattle.c_tree.specs.Tokens.Symbols.{Lexeme}
 
 -- a token as an integer constant
-abbrev pub constant : Lexeme → RawExpr
-constant t = e.Num t.at t.ty t.value
+abbrev pub constant_expr : Lexeme → RawExpr
+constant_expr t = e.Num t.at t.ty t.value
 
 -- and as the bound of a loop
-abbrev pub loop_bound : Lexeme → RawBound
-loop_bound t = record { at = t.at; value = t.value }
+abbrev pub raw_bound : Lexeme → RawBound
+raw_bound t = record { at = t.at; value = t.value }

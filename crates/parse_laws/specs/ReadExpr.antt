@@ -7,12 +7,28 @@ use Rattle.c_tree.specs.declared.unit.RawExpr.{RawExpr}
 use Rattle.c_tree.specs.declared.unit.RawExpr.TheVariants as e
 use Rattle.c_tree.specs.declared.symbol.Symbol.{Symbol}
 use Rattle.c_tree.specs.declared.symbol.Symbol.TheVariants as s
-use Rattle.c_tree.specs.Heights.{height}
-use Rattle.c_tree.specs.SpelledExpressions.{unary_operator, level}
+use Rattle.c_tree.specs.Grammar.Heights.{height}
+use Rattle.c_tree.specs.Grammar.SpelledExpressions.{unary_operator, level}
 use Rattle.parse_laws.specs.declared.going.Next.{Next}
 use Rattle.parse_laws.specs.declared.going.Next.TheVariants.{Stop, Ask, By}
-use Rattle.parse_laws.specs.Going.{next, binds}
-use Rattle.parse_laws.specs.Parser.{Parser, ◌>>=◌, ◌>>◌, pure, refuse, too_deep, first, head, tail, sees, expect, name, number, begins_type, type_name}
+use Rattle.parse_laws.specs.Going.{next_seen, binds}
+use Rattle.parse_laws.specs.Parser.{
+  Parser,
+  ◌>>=◌,
+  ◌>>◌,
+  pure,
+  refuse,
+  too_deep,
+  first,
+  head_lexeme,
+  tail,
+  sees,
+  expect,
+  name,
+  number_phrase,
+  begins_type,
+  type_name,
+}
 
 -- `inner n` reads an expression of level n that is less high by one
 module _ (inner : ℕ → Parser RawExpr) where
@@ -24,16 +40,17 @@ module _ (inner : ℕ → Parser RawExpr) where
     pure a
 
   -- what stands after a name
-  unfoldable pub index : Parser RawExpr
-  index = do
+  unfoldable pub index_phrase : Parser RawExpr
+  index_phrase = do
     expect s.LeftBracket
     expr_before s.RightBracket
 
-  unfoldable pub named : Spot → Parser RawExpr
-  named x = λ ts. if sees s.LeftBracket ts then (do i ← index; pure (e.Elem x i)) ts else Ok (e.Name x, ts)
+  unfoldable pub element_or_name : Spot → Parser RawExpr
+  element_or_name x = λ ts. if sees s.LeftBracket ts then (do i ← index_phrase; pure (e.Elem x i)) ts
+      else Ok (e.Name x, ts)
 
-  unfoldable pub variable : Parser RawExpr
-  variable = name >>= named
+  unfoldable pub variable_phrase : Parser RawExpr
+  variable_phrase = name >>= element_or_name
 
   -- what stands after a `(`, whose place is `at`
   unfoldable pub cast : ℕ → Parser RawExpr
@@ -43,30 +60,30 @@ module _ (inner : ℕ → Parser RawExpr) where
     a ← inner 11
     pure (e.Cast at to a)
 
-  unfoldable pub paren : ℕ → Parser RawExpr
-  paren at = do
+  unfoldable pub expr_in_parentheses : ℕ → Parser RawExpr
+  expr_in_parentheses at = do
     a ← expr_before s.RightParen
     pure (e.Paren at a)
 
-  unfoldable pub opened : ℕ → Parser RawExpr
-  opened at = λ ts. if begins_type ts then cast at ts else paren at ts
+  unfoldable pub cast_or_parentheses : ℕ → Parser RawExpr
+  cast_or_parentheses at = λ ts. if begins_type ts then cast at ts else expr_in_parentheses at ts
 
-  unfoldable pub parenthesised : Parser RawExpr
-  parenthesised = expect s.LeftParen >>= opened
+  unfoldable pub parenthesis_phrase : Parser RawExpr
+  parenthesis_phrase = expect s.LeftParen >>= cast_or_parentheses
 
   -- the next token as a unary operator, and its operand
-  unfoldable pub unary : UnOp → Parser RawExpr
-  unary o = λ ts. (do a ← inner 11; pure (e.Un (head ts).at o a)) (tail ts)
+  unfoldable pub unary_phrase : UnOp → Parser RawExpr
+  unary_phrase o = λ ts. (do a ← inner 11; pure (e.Un (head_lexeme ts).at o a)) (tail ts)
 
   abbrev pub unary_by : Option UnOp → Parser RawExpr
   unary_by None = refuse
-  unary_by (Some o) = unary o
+  unary_by (Some o) = unary_phrase o
 
   abbrev pub operand_by : Option Symbol → Parser RawExpr
   operand_by None = refuse
-  operand_by (Some s.Number) = number
-  operand_by (Some s.Name) = variable
-  operand_by (Some s.LeftParen) = parenthesised
+  operand_by (Some s.Number) = number_phrase
+  operand_by (Some s.Name) = variable_phrase
+  operand_by (Some s.LeftParen) = parenthesis_phrase
   operand_by (Some found) = unary_by (unary_operator found)
 
   unfoldable pub operand : Parser RawExpr
@@ -89,20 +106,21 @@ module _ (inner : ℕ → Parser RawExpr) where
     p ← choices
     pure (e.Cond left p.0 p.1)) (tail ts)
 
-  abbrev pub onward : (RawExpr → Parser RawExpr) → RawExpr → Next → Parser RawExpr
-  onward go left Stop = pure left
-  onward go left Ask = conditional left
-  onward go left (By o) = operation o left >>= go
+  abbrev pub with_next_operator : (RawExpr → Parser RawExpr) → RawExpr → Next → Parser RawExpr
+  with_next_operator go left Stop = pure left
+  with_next_operator go left Ask = conditional left
+  with_next_operator go left (By o) = operation o left >>= go
 
   abbrev pub climb_by : ℕ → (RawExpr → Parser RawExpr) → ℕ → RawExpr → Next → Parser RawExpr
-  climb_by room go least left next = if binds least next then (if nat_le room (height left) then too_deep else onward go left next) else pure left
+  climb_by room go least left next_seen = if binds least next_seen then (if nat_le room (height left) then too_deep
+      else with_next_operator go left next_seen) else pure left
 
   -- what `left` goes on with, in so many turns, at the level `least` or a tighter one and up to the height `room`
   unfoldable pub climb : ℕ → ℕ → ℕ → RawExpr → Parser RawExpr
   climb room zero least left = too_deep
-  climb room (suc turns) least left = λ ts. climb_by room (climb room turns least) least left (next ts) ts
+  climb room (suc turns) least left = λ ts. climb_by room (climb room turns least) least left (next_seen ts) ts
 
 -- an expression of the level `least` or a tighter one, up to the height `room`
-unfoldable pub expr : ℕ → ℕ → Parser RawExpr
-expr zero least = too_deep
-expr (suc room) least = operand (expr room) >>= climb (expr room) (suc room) (suc room) least
+unfoldable pub expr_phrase : ℕ → ℕ → Parser RawExpr
+expr_phrase zero least = too_deep
+expr_phrase (suc room) least = operand (expr_phrase room) >>= climb (expr_phrase room) (suc room) (suc room) least

@@ -6,6 +6,6 @@ mod going;
 mod head;
 pub mod law;
 
-pub use fault::Fault;
+pub use fault::ReadingFault;
 pub use going::Next;
 pub use head::ForHead;

@@ -8,9 +8,9 @@ use Rattle.c_tree.specs.declared.program.Local.{Local as Declared}
 use Rattle.c_tree.specs.declared.program.Global.{Global as Outside}
 use Rattle.c_tree.specs.declared.program.Func.{Func}
 use Rattle.c_tree.specs.declared.program.Program.{Program}
-use Rattle.c_tree.specs.Layouts.{Shape, global_shapes}
-use Rattle.c_tree.specs.Runs.{types_of, param_types, outer_types, entry_types, input_types}
-use Rattle.c_tree.specs.WellFormed.{HasParams, WellFormed, WellFormedFuncs}
+use Rattle.c_tree.specs.Keeping.Layouts.{Shape, global_shapes}
+use Rattle.c_tree.specs.Meaning.Runs.{types_of, param_types, outer_types, entry_types, input_types}
+use Rattle.c_tree.specs.Keeping.WellFormed.{HasParams, WellFormed, WellFormedFuncs}
 use Rattle.cond_laws.specs.TermPaths.{is_signed, width}
 
 -- ---- globals

@@ -7,9 +7,9 @@ use Rattle.c_tree.specs.declared.program.Local.{Local as Declared}
 use Rattle.c_tree.specs.declared.program.Global.{Global as Outside}
 use Rattle.c_tree.specs.declared.program.Func.{Func}
 use Rattle.c_tree.specs.declared.program.Program.{Program}
-use Rattle.c_tree.specs.Values.{is_of}
-use Rattle.c_tree.specs.Runs.{types_of, outer_types, entry_types}
-use Rattle.c_tree.specs.WellFormed.{HasParams, AreNumbersOf}
+use Rattle.c_tree.specs.Meaning.Values.{is_of}
+use Rattle.c_tree.specs.Meaning.Runs.{types_of, outer_types, entry_types}
+use Rattle.c_tree.specs.Keeping.WellFormed.{HasParams, AreNumbersOf}
 use Rattle.flow_laws.specs.Sites.{Copy}
 use Rattle.flow_laws.specs.Graphs.{copies, copy_of}
 use Rattle.bv_term.specs.declared.op.Op.TheVariants as op
@@ -20,11 +20,11 @@ use Rattle.cond_laws.specs.declared.store.TermSlot.TheVariants.{Numbers}
 use Rattle.cond_laws.specs.Conditions.{AllBelow}
 use Rattle.cond_laws.specs.Fits.{AsMany, Below, FitMemory, FitSlot, FitSlots}
 use Rattle.cond_laws.specs.Sizes.{AreSmallLocals, IsSmallCopy}
-use Rattle.cond_laws.specs.TermStores.{zeros}
+use Rattle.cond_laws.specs.TermStores.{zero_terms}
 use Rattle.cond_laws.specs.TermPaths as spec
 use Rattle.cond_laws.specs.TermPaths.{TermMemory, term_memory}
-use Rattle.cond_laws.proofs.OperandFits.{below_more, below_append}
-use Rattle.cond_laws.proofs.ExpressionFits.{slot_more, slots_more}
+use Rattle.cond_laws.proofs.Fitting.OperandFits.{below_more, below_append}
+use Rattle.cond_laws.proofs.Fitting.ExpressionFits.{slot_more, slots_more}
 use Rattle.term_steps.specs.Gives.{Gives}
 use Rattle.term_steps.proofs.Runs.{Rest, rest_next, rest_goes, rest_joined, gives_then, gives_done, moved}
 use Rattle.path_cond.specs.declared.memory.Memory.{Memory}
@@ -34,11 +34,11 @@ use Rattle.path_cond.proofs.DeclaredInputs.{many_params, params_within}
 
 -- ---- inputs
 
-pub inputs_next : (first many k : ℕ) → k < many → spec.inputs (first + k) (many - k) ≡ (put (op.Input (first + k)) >>= (λ x. spec.inputs (first + (k + 1)) (many - (k + 1)) >>= (λ xs. Done (x ∷ xs))))
+pub inputs_next : (first many k : ℕ) → k < many → spec.input_terms (first + k) (many - k) ≡ (put (op.Input (first + k)) >>= (λ x. spec.input_terms (first + (k + 1)) (many - (k + 1)) >>= (λ xs. Done (x ∷ xs))))
 inputs_next first many k lt =
     let fewer : many - k ≡ suc (many - (k + 1)) = omega (arith, lt) in
     let next : first + k + 1 ≡ first + (k + 1) = omega arith in
-    ap (spec.inputs (first + k)) fewer ∙ ap (λ j. put (op.Input (first + k)) >>= (λ x. spec.inputs j (many - (k + 1)) >>= (λ xs. Done (x ∷ xs)))) next
+    ap (spec.input_terms (first + k)) fewer ∙ ap (λ j. put (op.Input (first + k)) >>= (λ x. spec.input_terms j (many - (k + 1)) >>= (λ xs. Done (x ∷ xs)))) next
 
 -- one more was put, and stands last
 pub pushed : {all : Script (List ℕ)} {s : Script ℕ} {start now new : Terms} {y : ℕ} (more : Script (List ℕ)) (xs ys : List ℕ) → Rest all (s >>= (λ y. more >>= (λ r. Done (y ∷ r)))) (λ r. xs ++ r) start now → Gives Below s now new y → ys ≡ xs ++ y ∷ [] → Rest all more (λ r. ys ++ r) start new
@@ -57,21 +57,21 @@ number_at t (z ∷ zs) (suc i) d h lt = number_at t zs i d h.1 (omega arith)
 
 -- ---- globals
 
-pub array_given : {old new : Terms} {more : List ℕ} (t : Ty) (n missing : ℕ) (given all : List ℕ) → missing ≡ n - length given → Gives (AsMany missing) (zeros missing) old new more → AllBelow (length old.ops) given → length given < 2 ^ 31 → n ≤ 64 → all ≡ given ++ more → Gives FitSlot (spec.global_slot t (Some n) given) old new (Numbers t all)
+pub array_given : {old new : Terms} {more : List ℕ} (t : Ty) (n missing : ℕ) (given all : List ℕ) → missing ≡ n - length given → Gives (AsMany missing) (zero_terms missing) old new more → AllBelow (length old.ops) given → length given < 2 ^ 31 → n ≤ 64 → all ≡ given ++ more → Gives FitSlot (spec.global_term_slot t (Some n) given) old new (Numbers t all)
 array_given {old = old} {new = new} {more = more} t n missing given all is h there few short e =
-    let begun : Gives (AsMany missing) (zeros (n - length given)) old new more = subst (λ m. Gives (AsMany missing) (zeros m) old new more) is h in
+    let begun : Gives (AsMany missing) (zero_terms (n - length given)) old new more = subst (λ m. Gives (AsMany missing) (zero_terms m) old new more) is h in
     let fits : FitSlot (length new.ops) (Numbers t (given ++ more)) = (below_append (length new.ops) given more (below_more (length old.ops) (length new.ops) given h.grows there) h.fits.0, omega (arith, length-append given more, h.fits.1, is)) in
-    subst (λ ns. Gives FitSlot (spec.global_slot t (Some n) given) old new (Numbers t ns)) (sym e) (gives_done FitSlot (λ zs. Numbers t (given ++ zs)) begun fits)
+    subst (λ ns. Gives FitSlot (spec.global_term_slot t (Some n) given) old new (Numbers t ns)) (sym e) (gives_done FitSlot (λ zs. Numbers t (given ++ zs)) begun fits)
 
 -- ---- one global more
 
-pub globals_next : {all : Script (List TermSlot)} {start now mid new : Terms} {ns : List ℕ} {x : TermSlot} (gs : List Outside) (g : Outside) (k next : ℕ) (xs ys : List TermSlot) → next ≡ part.next_input g k → Rest all (spec.global_slots (g ∷ gs) k) (λ r. xs ++ r) start now → Gives AllBelow (part.global_terms g k) now mid ns → Gives FitSlot (spec.global_slot g.ty g.length ns) mid new x → ys ≡ xs ++ x ∷ [] → Rest all (spec.global_slots gs next) (λ r. ys ++ r) start new
+pub globals_next : {all : Script (List TermSlot)} {start now mid new : Terms} {ns : List ℕ} {x : TermSlot} (gs : List Outside) (g : Outside) (k next : ℕ) (xs ys : List TermSlot) → next ≡ part.next_input g k → Rest all (spec.global_term_slots (g ∷ gs) k) (λ r. xs ++ r) start now → Gives AllBelow (part.global_terms g k) now mid ns → Gives FitSlot (spec.global_term_slot g.ty g.length ns) mid new x → ys ≡ xs ++ x ∷ [] → Rest all (spec.global_term_slots gs next) (λ r. ys ++ r) start new
 globals_next {all} {start} {now} {mid} {new} {ns} {x} gs g k next xs ys behind begun terms slot e =
-    rest_joined (λ r. ys ++ r) (λ r. moved xs x r ∙ ap (λ l. l ++ r) (sym e)) (subst (λ n. Rest all (spec.global_slots gs n) (λ r. xs ++ (x ∷ r)) start new) (sym behind) (by_outer g.outer begun terms))
+    rest_joined (λ r. ys ++ r) (λ r. moved xs x r ∙ ap (λ l. l ++ r) (sym e)) (subst (λ n. Rest all (spec.global_term_slots gs n) (λ r. xs ++ (x ∷ r)) start new) (sym behind) (by_outer g.outer begun terms))
   where
-    by_outer : (b : Bool) → Rest all (if b then (spec.inputs k (spec.width g.length) >>= (λ xs. spec.global_slot g.ty g.length xs >>= (λ x. spec.global_slots gs (k + spec.width g.length) >>= (λ rest. Done (x ∷ rest))))) else (spec.numbers g.ty g.values >>= (λ xs. spec.global_slot g.ty g.length xs >>= (λ x. spec.global_slots gs k >>= (λ rest. Done (x ∷ rest)))))) (λ r. xs ++ r) start now → Gives AllBelow (if b then spec.inputs k (spec.width g.length) else spec.numbers g.ty g.values) now mid ns → Rest all (spec.global_slots gs (if b then k + spec.width g.length else k)) (λ r. xs ++ (x ∷ r)) start new
-    by_outer true begun terms = rest_next (λ x. spec.global_slots gs (k + spec.width g.length)) (λ x rest. x ∷ rest) (rest_goes (λ xs. spec.global_slot g.ty g.length xs >>= (λ x. spec.global_slots gs (k + spec.width g.length) >>= (λ rest. Done (x ∷ rest)))) begun terms) slot
-    by_outer false begun terms = rest_next (λ x. spec.global_slots gs k) (λ x rest. x ∷ rest) (rest_goes (λ xs. spec.global_slot g.ty g.length xs >>= (λ x. spec.global_slots gs k >>= (λ rest. Done (x ∷ rest)))) begun terms) slot
+    by_outer : (b : Bool) → Rest all (if b then (spec.input_terms k (spec.width g.length) >>= (λ xs. spec.global_term_slot g.ty g.length xs >>= (λ x. spec.global_term_slots gs (k + spec.width g.length) >>= (λ rest. Done (x ∷ rest))))) else (spec.numbers g.ty g.values >>= (λ xs. spec.global_term_slot g.ty g.length xs >>= (λ x. spec.global_term_slots gs k >>= (λ rest. Done (x ∷ rest)))))) (λ r. xs ++ r) start now → Gives AllBelow (if b then spec.input_terms k (spec.width g.length) else spec.numbers g.ty g.values) now mid ns → Rest all (spec.global_term_slots gs (if b then k + spec.width g.length else k)) (λ r. xs ++ (x ∷ r)) start new
+    by_outer true begun terms = rest_next (λ x. spec.global_term_slots gs (k + spec.width g.length)) (λ x rest. x ∷ rest) (rest_goes (λ xs. spec.global_term_slot g.ty g.length xs >>= (λ x. spec.global_term_slots gs (k + spec.width g.length) >>= (λ rest. Done (x ∷ rest)))) begun terms) slot
+    by_outer false begun terms = rest_next (λ x. spec.global_term_slots gs k) (λ x rest. x ∷ rest) (rest_goes (λ xs. spec.global_term_slot g.ty g.length xs >>= (λ x. spec.global_term_slots gs k >>= (λ rest. Done (x ∷ rest)))) begun terms) slot
 
 -- the inputs of the rest come behind
 pub globals_left : (gs : List Outside) (g : Outside) (k : ℕ) → part.next_input g k + length (outer_types gs) ≡ k + length (outer_types (g ∷ gs))
@@ -135,20 +135,20 @@ entry_locals p f is small =
 
 -- what a run of this function begins with
 abbrev begun_with : Program → ℕ → (List ℕ → Script (List TermSlot)) → Script TermMemory
-begun_with p n slots = spec.inputs 0 n >>= (λ vs. slots vs >>= (λ ls. spec.global_slots p.globals n >>= (λ gs. Done (term_memory (record { locals = ls; globals = gs }) [] None))))
+begun_with p n slots = spec.input_terms 0 n >>= (λ vs. slots vs >>= (λ ls. spec.global_term_slots p.globals n >>= (λ gs. Done (term_memory (record { locals = ls; globals = gs }) [] None))))
 
-start_is : (p : Program) (f : Func) → slice_get p.funcs p.entry ≡ Some f → HasParams f.params f.locals → spec.start p ≡ begun_with p f.params (λ vs. spec.entry_slots f.locals vs)
-unfolding spec.start
+start_is : (p : Program) (f : Func) → slice_get p.funcs p.entry ≡ Some f → HasParams f.params f.locals → spec.start_term_memory p ≡ begun_with p f.params (λ vs. spec.entry_term_slots f.locals vs)
+unfolding spec.start_term_memory
 start_is p f is h =
     let c = entry_copy p f is in
     let many : length (entry_types (slice_get p.funcs p.entry)) ≡ f.params = ap (λ o. length (entry_types o)) is ∙ many_params f.params f.locals (params_within f.params f.locals h) in
-    ap (λ n. begun_with p n (λ vs. spec.slots_of (slice_get (copies [] p.funcs) p.entry) vs)) many ∙ (ap (λ o. begun_with p f.params (λ vs. spec.slots_of o vs)) c.is ∙ ap (λ ls. begun_with p f.params (λ vs. spec.entry_slots ls vs)) c.locals_are)
+    ap (λ n. begun_with p n (λ vs. spec.copy_term_slots (slice_get (copies [] p.funcs) p.entry) vs)) many ∙ (ap (λ o. begun_with p f.params (λ vs. spec.copy_term_slots o vs)) c.is ∙ ap (λ ls. begun_with p f.params (λ vs. spec.entry_term_slots ls vs)) c.locals_are)
 
-pub started : {old mid far new : Terms} {vs given : List ℕ} {declared : List Declared} {outside : List Outside} {ls gs : List TermSlot} (p : Program) (f : Func) (m : Memory) → slice_get p.funcs p.entry ≡ Some f → HasParams f.params f.locals → given ≡ vs → declared ≡ f.locals → outside ≡ p.globals → Gives (AsMany f.params) (spec.inputs 0 f.params) old mid vs → Gives FitSlots (spec.entry_slots declared given) mid far ls → Gives FitSlots (spec.global_slots outside f.params) far new gs → m ≡ record { store = record { locals = ls; globals = gs }; frames = []; result = None } → Gives FitMemory (spec.start p) old new (memory_of m)
+pub started : {old mid far new : Terms} {vs given : List ℕ} {declared : List Declared} {outside : List Outside} {ls gs : List TermSlot} (p : Program) (f : Func) (m : Memory) → slice_get p.funcs p.entry ≡ Some f → HasParams f.params f.locals → given ≡ vs → declared ≡ f.locals → outside ≡ p.globals → Gives (AsMany f.params) (spec.input_terms 0 f.params) old mid vs → Gives FitSlots (spec.entry_term_slots declared given) mid far ls → Gives FitSlots (spec.global_term_slots outside f.params) far new gs → m ≡ record { store = record { locals = ls; globals = gs }; frames = []; result = None } → Gives FitMemory (spec.start_term_memory p) old new (memory_of m)
 started {old} {mid} {far} {new} {vs} {given} {declared} {outside} {ls} {gs} p f m is h same_given same_locals same_globals first second third made =
     let after : TermMemory = term_memory (record { locals = ls; globals = gs }) [] None in
-    let slots : Gives FitSlots (spec.entry_slots f.locals vs) mid far ls = subst (λ l. Gives FitSlots (spec.entry_slots l vs) mid far ls) same_locals (subst (λ ns. Gives FitSlots (spec.entry_slots declared ns) mid far ls) same_given second) in
-    let globals : Gives FitSlots (spec.global_slots p.globals f.params) far new gs = subst (λ l. Gives FitSlots (spec.global_slots l f.params) far new gs) same_globals third in
+    let slots : Gives FitSlots (spec.entry_term_slots f.locals vs) mid far ls = subst (λ l. Gives FitSlots (spec.entry_term_slots l vs) mid far ls) same_locals (subst (λ ns. Gives FitSlots (spec.entry_term_slots declared ns) mid far ls) same_given second) in
+    let globals : Gives FitSlots (spec.global_term_slots p.globals f.params) far new gs = subst (λ l. Gives FitSlots (spec.global_term_slots l f.params) far new gs) same_globals third in
     let fits : FitMemory (length new.ops) after = record { store = record { locals = slots_more (length far.ops) (length new.ops) ls third.grows second.fits; globals = third.fits }; frames = tt; result = tt } in
-    let all : Gives FitMemory (begun_with p f.params (λ vs. spec.entry_slots f.locals vs)) old new after = gives_then (λ vs. spec.entry_slots f.locals vs >>= (λ ls. spec.global_slots p.globals f.params >>= (λ gs. Done (term_memory (record { locals = ls; globals = gs }) [] None)))) first (gives_then (λ ls. spec.global_slots p.globals f.params >>= (λ gs. Done (term_memory (record { locals = ls; globals = gs }) [] None))) slots (gives_done FitMemory (λ gs. term_memory (record { locals = ls; globals = gs }) [] None) globals fits)) in
-    subst (λ m. Gives FitMemory (spec.start p) old new (memory_of m)) (sym made) (subst (λ s. Gives FitMemory s old new after) (sym (start_is p f is h)) all)
+    let all : Gives FitMemory (begun_with p f.params (λ vs. spec.entry_term_slots f.locals vs)) old new after = gives_then (λ vs. spec.entry_term_slots f.locals vs >>= (λ ls. spec.global_term_slots p.globals f.params >>= (λ gs. Done (term_memory (record { locals = ls; globals = gs }) [] None)))) first (gives_then (λ ls. spec.global_term_slots p.globals f.params >>= (λ gs. Done (term_memory (record { locals = ls; globals = gs }) [] None))) slots (gives_done FitMemory (λ gs. term_memory (record { locals = ls; globals = gs }) [] None) globals fits)) in
+    subst (λ m. Gives FitMemory (spec.start_term_memory p) old new (memory_of m)) (sym made) (subst (λ s. Gives FitMemory s old new after) (sym (start_is p f is h)) all)

@@ -9,16 +9,16 @@ use Rattle.c_tree.specs.declared.program.Global.{Global}
 use Rattle.bv_term.specs.Scripts.{Script, pure}
 use Rattle.cond_laws.specs.declared.store.TermSlot.{TermSlot}
 use Rattle.cond_laws.specs.declared.store.TermSlot.TheVariants.{Number}
-use Rattle.cond_laws.specs.TermPaths.{fresh, inputs, numbers, width}
+use Rattle.cond_laws.specs.TermPaths.{fresh_term_slot, input_terms, numbers, width}
 
 -- the slot of a local as a call begins, of a parameter with its argument
 abbrev pub entry_slot : Local → Option ℕ → Script TermSlot
-entry_slot l None = fresh l.ty l.length
+entry_slot l None = fresh_term_slot l.ty l.length
 entry_slot l (Some v) = pure (Number l.ty v)
 
 -- the terms of a global: its inputs, of which the first has the number k, or the numbers of its initialiser
 abbrev pub global_terms : Global → ℕ → Script (List ℕ)
-global_terms g k = if g.outer then inputs k (width g.length) else numbers g.ty g.values
+global_terms g k = if g.outer then input_terms k (width g.length) else numbers g.ty g.values
 
 -- the number of the input behind those of a global
 abbrev pub next_input : Global → ℕ → ℕ

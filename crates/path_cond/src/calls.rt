@@ -5,7 +5,7 @@ ghost use Rattle.cond_laws.specs.Conditions.{AllBelow};
 ghost use Rattle.cond_laws.specs.Fits.{FitEffect, FitMemory, FitReturned, FitSlot, FitSlots, FitStore};
 ghost use Rattle.cond_laws.specs.Sizes.{AreSmallLocals, HasSmallLength};
 ghost use Rattle.cond_laws.specs.TermPaths as spec;
-ghost use Rattle.cond_laws.specs.TermStatements.{effect};
+ghost use Rattle.cond_laws.specs.TermStatements.{effect_with};
 ghost use Rattle.path_cond.specs.Memories.{memory_of, FitMove};
 ghost use Rattle.path_cond.specs.Parts as part;
 ghost use Rattle.term_steps.specs.Gives.{Gives};
@@ -23,7 +23,8 @@ use term_steps::all_exprs;
 // The slot of a local as a call begins.
 fn fresh(alloc: Global, terms: &mut Terms, local: &Local) -> Result<TermSlot, NoMemory>
     requires { HasSmallLength local.now.length }
-    ensures { IfOk result (λ x. Gives FitSlot (spec.fresh local.now.ty local.now.length) terms.old terms.new x) }
+    ensures { IfOk result (λ x. Gives FitSlot (spec.fresh_term_slot local.now.ty local.now.length) terms.old terms.new
+        x) }
 {
     match local.length {
         None => Ok(TermSlot::Unset(local.ty)),
@@ -61,7 +62,7 @@ pub(crate) fn entry_slots(
 ) -> Result<Items<TermSlot>, NoMemory>
     requires small { AreSmallLocals locals.now }
     requires there { AllBelow (length terms.old.ops) given.now }
-    ensures { IfOk result (λ xs. Gives FitSlots (spec.entry_slots locals.now given.now) terms.old terms.new xs) }
+    ensures { IfOk result (λ xs. Gives FitSlots (spec.entry_term_slots locals.now given.now) terms.old terms.new xs) }
 {
     let mut slots = Items::new(alloc);
     for at in 0..locals.len() {
@@ -73,7 +74,7 @@ pub(crate) fn entry_slots(
 
 // A declaration whose value is the result of a call: its local has no value before.
 fn unset_target(target: Target, store: &mut TermStore)
-    ensures { store.new ≡ spec.unset_target target store.old }
+    ensures { store.new ≡ spec.unset_target_term target store.old }
 {
     match target {
         Target::Nothing => {}
@@ -93,8 +94,8 @@ pub(crate) fn enter(
 ) -> Result<Items<u32>, NoMemory>
     requires small { AreSmallLocals locals.now }
     requires there { FitMemory (length terms.old.ops) (memory_of memory.old) }
-    ensures { IfOk result (λ cs. Gives FitMove (spec.enter target locals.now args.now (memory_of memory.old))
-        terms.old terms.new (effect (memory_of memory.new) cs)) }
+    ensures { IfOk result (λ cs. Gives FitMove (spec.entry_effect target locals.now args.now (memory_of memory.old))
+        terms.old terms.new (effect_with (memory_of memory.new) cs)) }
 {
     unset_target(target, &mut memory.store);
     let given = all_exprs(alloc, terms, args, &memory.store)?;
@@ -107,7 +108,7 @@ pub(crate) fn enter(
 
 // A returned value, whose word is read in the function's type (6.8.6.4 paragraph 3).
 fn result_of(ty: Option<Ty>, value: Option<Returned>) -> Option<Returned>
-    ensures { result ≡ spec.result_of ty value }
+    ensures { result ≡ spec.result_term ty value }
 {
     let ty = ty?;
     let value = value?;
@@ -139,8 +140,8 @@ fn give(
 ) -> Result<Items<u32>, NoMemory>
     requires value { FitReturned (length terms.old.ops) value }
     requires there { FitStore (length terms.old.ops) store.old }
-    ensures { IfOk result (λ cs. Gives FitEffect (spec.give target value store.old)
-        terms.old terms.new (effect store.new cs)) }
+    ensures { IfOk result (λ cs. Gives FitEffect (spec.result_effect target value store.old)
+        terms.old terms.new (effect_with store.new cs)) }
 {
     let Some(var) = variable_of(target) else {
         return Ok(Items::new(alloc));
@@ -162,8 +163,8 @@ pub(crate) fn land(
 ) -> Result<Items<u32>, NoMemory>
     requires { FitMemory (length terms.old.ops) (memory_of memory.old) }
     ensures { IfOk result (λ cs. Gives FitMove
-        (spec.land target ty (memory_of memory.old).frames (memory_of memory.old))
-        terms.old terms.new (effect (memory_of memory.new) cs)) }
+        (spec.landing_effect target ty (memory_of memory.old).frames (memory_of memory.old))
+        terms.old terms.new (effect_with (memory_of memory.new) cs)) }
 {
     let Some(locals) = memory.frames.pop() else {
         return nowhere(alloc, terms);

@@ -9,7 +9,7 @@ ghost use Rattle.cond_laws.specs.Conditions.{AllBelow};
 ghost use Rattle.cond_laws.specs.Fits.{FitMemory};
 ghost use Rattle.cond_laws.specs.Sizes.{IsSmallContent};
 ghost use Rattle.cond_laws.specs.TermPaths as spec;
-ghost use Rattle.cond_laws.specs.TermStatements.{effect};
+ghost use Rattle.cond_laws.specs.TermStatements.{effect_with};
 ghost use Rattle.node_contents.specs.Contents.{content_of};
 ghost use Rattle.path_cond.specs.Memories.{memory_of, FitMove};
 ghost use Rattle.term_steps.specs.Gives.{Gives};
@@ -34,8 +34,9 @@ fn holds(
     memory: &Memory,
 ) -> Result<Items<u32>, NoMemory>
     requires { FitMemory (length terms.old.ops) (memory_of memory.now) }
-    ensures { IfOk result (λ cs. Gives FitMove (spec.act (content_of content.entry) way.True (memory_of memory.now))
-        terms.old terms.new (effect (memory_of memory.now) cs)) }
+    ensures { IfOk result (λ cs. Gives FitMove (spec.content_effect (content_of content.entry) way.True
+        (memory_of memory.now))
+        terms.old terms.new (effect_with (memory_of memory.now) cs)) }
 {
     let Content::Test(condition) = content else {
         return nowhere(alloc, terms);
@@ -54,8 +55,9 @@ fn fails(
     memory: &Memory,
 ) -> Result<Items<u32>, NoMemory>
     requires { FitMemory (length terms.old.ops) (memory_of memory.now) }
-    ensures { IfOk result (λ cs. Gives FitMove (spec.act (content_of content.entry) way.False (memory_of memory.now))
-        terms.old terms.new (effect (memory_of memory.now) cs)) }
+    ensures { IfOk result (λ cs. Gives FitMove (spec.content_effect (content_of content.entry) way.False
+        (memory_of memory.now))
+        terms.old terms.new (effect_with (memory_of memory.now) cs)) }
 {
     let Content::Test(condition) = content else {
         return nowhere(alloc, terms);
@@ -76,8 +78,8 @@ fn give_back(
     memory: &mut Memory,
 ) -> Result<Items<u32>, NoMemory>
     requires { FitMemory (length terms.old.ops) (memory_of memory.old) }
-    ensures { IfOk result (λ cs. Gives FitMove (spec.act (Give value.now) way.Next (memory_of memory.old))
-        terms.old terms.new (effect (memory_of memory.new) cs)) }
+    ensures { IfOk result (λ cs. Gives FitMove (spec.content_effect (Give value.now) way.Next (memory_of memory.old))
+        terms.old terms.new (effect_with (memory_of memory.new) cs)) }
 {
     let Some(value) = value else {
         memory.result = None;
@@ -100,8 +102,9 @@ fn run(
 ) -> Result<Items<u32>, NoMemory>
     requires small { IsSmallContent (content_of content) }
     requires there { FitMemory (length terms.old.ops) (memory_of memory.old) }
-    ensures { IfOk result (λ cs. Gives FitMove (spec.act (content_of content.entry) way.Next (memory_of memory.old))
-        terms.old terms.new (effect (memory_of memory.new) cs)) }
+    ensures { IfOk result (λ cs. Gives FitMove (spec.content_effect (content_of content.entry) way.Next
+        (memory_of memory.old))
+        terms.old terms.new (effect_with (memory_of memory.new) cs)) }
 {
     match content {
         Content::Entry => Ok(Items::new(alloc)),
@@ -126,8 +129,9 @@ fn act(
 ) -> Result<Items<u32>, NoMemory>
     requires small { IsSmallContent (content_of content) }
     requires there { FitMemory (length terms.old.ops) (memory_of memory.old) }
-    ensures { IfOk result (λ cs. Gives FitMove (spec.act (content_of content.entry) way (memory_of memory.old))
-        terms.old terms.new (effect (memory_of memory.new) cs)) }
+    ensures { IfOk result (λ cs. Gives FitMove (spec.content_effect (content_of content.entry) way
+        (memory_of memory.old))
+        terms.old terms.new (effect_with (memory_of memory.new) cs)) }
 {
     match way {
         Way::Next => run(alloc, terms, content, memory),
@@ -150,7 +154,7 @@ fn pass(
     requires there { FitMemory (length terms.old.ops) (memory_of memory.old) }
     ensures { IfOk result (λ cs. Gives FitMove
         (spec.pass (graph plan.now.program) (slice_get (edges (graph plan.now.program)) edge) (memory_of memory.old))
-        terms.old terms.new (effect (memory_of memory.new) cs)) }
+        terms.old terms.new (effect_with (memory_of memory.new) cs)) }
 {
     // The program is well-formed.
     plan.program();

@@ -1,8 +1,8 @@
 //! The inputs of a program, declared in order: the parameters of the entry function, then the extern variables.
 
 ghost use Rattle.std.specs.Prelude.{◌≡◌, ◌≤◌, ◌+◌, ◌++◌, [], ◌∷◌, length, map, replicate, OnOk};
-ghost use Rattle.c_tree.specs.Runs.{input_types, outer_types};
-ghost use Rattle.c_tree.specs.WellFormed.{WellFormed};
+ghost use Rattle.c_tree.specs.Meaning.Runs.{input_types, outer_types};
+ghost use Rattle.c_tree.specs.Keeping.WellFormed.{WellFormed};
 ghost use Rattle.cond_laws.specs.TermPaths as spec;
 ghost use Rattle.cond_laws.specs.TermPaths.{is_signed};
 

@@ -2,7 +2,7 @@
 
 ghost use Rattle.std.specs.Prelude.{◌≡◌, ◌≤◌, true, IfOk};
 ghost use Rattle.c_tree.specs.declared.program.Input.{Input};
-ghost use Rattle.c_tree.specs.Runs.{fits};
+ghost use Rattle.c_tree.specs.Meaning.Runs.{fits};
 ghost use Rattle.flow_laws.specs.Graphs.{graph, edges};
 ghost use Rattle.flow_laws.specs.Paths.{follows};
 ghost use Rattle.bv_term.specs.Stores.{fits_store};
@@ -26,7 +26,7 @@ use term_effects::nowhere;
 
 // No condition where the list keeps the loops' bounds, and else one that is 0.
 fn broken(alloc: Global, terms: &mut Terms, keeps: bool) -> Result<Items<u32>, NoMemory>
-    ensures { IfOk result (λ cs. Gives AllBelow (spec.broken keeps) terms.old terms.new cs) }
+    ensures { IfOk result (λ cs. Gives AllBelow (spec.bound_conditions keeps) terms.old terms.new cs) }
 {
     if keeps {
         Ok(Items::new(alloc))

@@ -1,9 +1,15 @@
 //! The memory that a run begins with (C11 6.7.9, 6.9.1).
 
 ghost use Rattle.std.specs.Prelude.{◌≡◌, ◌<◌, ◌≤◌, ◌+◌, ◌^◌, true, length, None, Some, IfOk};
-ghost use Rattle.c_tree.specs.Runs.{input_types, outer_types};
-ghost use Rattle.c_tree.specs.Values.{is_of};
-ghost use Rattle.c_tree.specs.WellFormed.{AreNumbersOf, IsLength, WellFormed, WellFormedGlobal, WellFormedGlobals};
+ghost use Rattle.c_tree.specs.Meaning.Runs.{input_types, outer_types};
+ghost use Rattle.c_tree.specs.Meaning.Values.{is_of};
+ghost use Rattle.c_tree.specs.Keeping.WellFormed.{
+  AreNumbersOf,
+  IsLength,
+  WellFormed,
+  WellFormedGlobal,
+  WellFormedGlobals,
+};
 ghost use Rattle.cond_laws.specs.Conditions.{AllBelow};
 ghost use Rattle.cond_laws.specs.Fits.{AsMany, FitMemory, FitSlot, FitSlots};
 ghost use Rattle.cond_laws.specs.TermPaths as spec;
@@ -26,7 +32,7 @@ use term_steps::{joined, put};
 fn inputs(alloc: Global, terms: &mut Terms, first: u32, count: u32) -> Result<Items<u32>, NoMemory>
     requires declared { first + count ≤ length terms.old.inputs }
     requires few { first + count ≤ 64 }
-    ensures { IfOk result (λ ns. Gives (AsMany count) (spec.inputs first count) terms.old terms.new ns) }
+    ensures { IfOk result (λ ns. Gives (AsMany count) (spec.input_terms first count) terms.old terms.new ns) }
 {
     let mut numbers = Items::new(alloc);
     for k in 0..count {
@@ -64,7 +70,7 @@ fn numbers(alloc: Global, terms: &mut Terms, ty: Ty, values: &[i64]) -> Result<I
 // A global that is no array, with its term, or 0.
 fn scalar_slot(terms: &mut Terms, ty: Ty, given: &[u32]) -> Result<TermSlot, NoMemory>
     requires { AllBelow (length terms.old.ops) given.now }
-    ensures { IfOk result (λ x. Gives FitSlot (spec.global_slot ty None given.now) terms.old terms.new x) }
+    ensures { IfOk result (λ x. Gives FitSlot (spec.global_term_slot ty None given.now) terms.old terms.new x) }
 {
     if given.is_empty() {
         let zero = put(terms, Op::Const(0))?;
@@ -85,7 +91,7 @@ fn array_slot(
     requires there { AllBelow (length terms.old.ops) given }
     requires few { length given < 2 ^ 31 }
     requires short { count ≤ 64 }
-    ensures { IfOk result (λ x. Gives FitSlot (spec.global_slot ty (Some count) given) terms.old terms.new x) }
+    ensures { IfOk result (λ x. Gives FitSlot (spec.global_term_slot ty (Some count) given) terms.old terms.new x) }
 {
     let missing = (count as usize).saturating_sub(given.len());
     let more = zeros(alloc, terms, missing)?;
@@ -103,7 +109,7 @@ fn global_slot(
     requires array { IsLength global.now.length }
     requires there { AllBelow (length terms.old.ops) given }
     requires few { length given < 2 ^ 31 }
-    ensures { IfOk result (λ x. Gives FitSlot (spec.global_slot global.now.ty global.now.length given)
+    ensures { IfOk result (λ x. Gives FitSlot (spec.global_term_slot global.now.ty global.now.length given)
         terms.old terms.new x) }
 {
     match global.length {
@@ -142,7 +148,7 @@ fn global_slots(
     requires formed { WellFormedGlobals globals.now }
     requires declared { first + length (outer_types globals.now) ≤ length terms.old.inputs }
     requires few { first + length (outer_types globals.now) ≤ 64 }
-    ensures { IfOk result (λ xs. Gives FitSlots (spec.global_slots globals.now first) terms.old terms.new xs) }
+    ensures { IfOk result (λ xs. Gives FitSlots (spec.global_term_slots globals.now first) terms.old terms.new xs) }
 {
     let mut slots = Items::new(alloc);
     let mut next = first;
@@ -171,7 +177,7 @@ fn next_input(global: &Outside, first: u32) -> u32
 pub(crate) fn start(alloc: Global, terms: &mut Terms, program: &Program) -> Result<Memory, NoMemory>
     requires formed { WellFormed program.now }
     requires declared { length terms.old.inputs ≡ length (input_types program.now) }
-    ensures { IfOk result (λ m. Gives FitMemory (spec.start program.now) terms.old terms.new (memory_of m)) }
+    ensures { IfOk result (λ m. Gives FitMemory (spec.start_term_memory program.now) terms.old terms.new (memory_of m)) }
 {
     let entry = &program.funcs.as_slice()[program.entry as usize];
     let given = inputs(alloc, terms, 0, entry.params)?;

@@ -4,19 +4,19 @@ use Rattle.std.specs.Bool.{Decides}
 use Rattle.std.proofs.lemmas.Bool.Decides.{Decides-by_and, Decides-not, Decides-eqb}
 use Rattle.c_tree.specs.declared.program.Program.{Program}
 use Rattle.c_tree.specs.declared.program.Input.{Input}
-use Rattle.c_tree.specs.Runs.{fits}
-use Rattle.c_tree.specs.WellFormed.{WellFormed}
+use Rattle.c_tree.specs.Meaning.Runs.{fits}
+use Rattle.c_tree.specs.Keeping.WellFormed.{WellFormed}
 use Rattle.flow_laws.specs.Graphs.{graph, edges}
 use Rattle.flow_laws.specs.Paths.{follows}
 use Rattle.bv_term.specs.Stores.{Terms, tv}
 use Rattle.cond_laws.specs.Judged.{all_hold}
 use Rattle.cond_laws.specs.Conditions.{Cond, FitTerms, all_nonzero}
 use Rattle.cond_laws.specs.TermPaths.{TermsOf}
-use Rattle.cond_laws.proofs.Whole.{terms_tell, terms_fit, same_fits}
+use Rattle.cond_laws.proofs.Paths.Whole.{terms_tell, terms_fit, same_fits}
 use Rattle.cnf_form.specs.declared.cnf.Cnf.{Cnf}
 use Rattle.cnf_form.specs.Truth.{Satisfies}
 use Rattle.bit_circuits.specs.Formula.{VariablesOf, ClausesOf, IsFormulaOf}
-use Rattle.bit_circuits.proofs.Meaning.{clauses-are}
+use Rattle.bit_circuits.proofs.Formulas.Meaning.{clauses-are}
 use Rattle.path_formulas.specs.FormulasOfLists.{IsFormulaOfList, input_said, SaysWhatDrives}
 
 -- the conditions are nonzero, as a test and as a fact

@@ -2,7 +2,7 @@
 use Rattle.std.specs.Prelude.{◌≡◌, ℕ, Bool, IsTrue, List, length}
 use Rattle.c_tree.specs.declared.program.Program.{Program}
 use Rattle.c_tree.specs.declared.program.Input.{Input}
-use Rattle.c_tree.specs.Runs.{fits}
+use Rattle.c_tree.specs.Meaning.Runs.{fits}
 use Rattle.flow_laws.specs.Driving.{Drives}
 use Rattle.cond_laws.specs.TermPaths.{TermsOf}
 use Rattle.cnf_form.specs.declared.cnf.Cnf.{Cnf}

@@ -2,7 +2,7 @@
 
 ghost use Rattle.std.specs.Prelude.{◌≡◌, ℕ, List, true};
 ghost use Rattle.c_tree.specs.declared.program.Program.{Program};
-ghost use Rattle.c_tree.specs.WellFormed.{WellFormed};
+ghost use Rattle.c_tree.specs.Keeping.WellFormed.{WellFormed};
 ghost use Rattle.flow_laws.specs.Graphs.{graph, edges};
 ghost use Rattle.flow_laws.specs.Paths.{follows};
 ghost use Rattle.cnf_form.specs.declared.cnf.Cnf.{Cnf};

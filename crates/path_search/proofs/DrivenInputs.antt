@@ -5,33 +5,30 @@ use Rattle.std.proofs.lemmas.Bool.{false≢true}
 use Rattle.std.proofs.lemmas.List.{length-append}
 use Rattle.c_tree.specs.declared.program.Program.{Program}
 use Rattle.c_tree.specs.declared.program.Input.{Input}
-use Rattle.c_tree.specs.Runs.{fits}
+use Rattle.c_tree.specs.Meaning.Runs.{fits}
 use Rattle.bv_term.specs.declared.op.Op.{Op}
-use Rattle.bv_term.specs.Words.{word_of}
-use Rattle.bv_term.specs.Stores.{Terms, words, words_from, input_word, tv}
+use Rattle.bv_term.specs.Words.{op_word}
+use Rattle.bv_term.specs.Stores.{Terms, op_words, words_from, input_word, tv}
 use Rattle.cond_laws.specs.Judged.{all_hold}
 use Rattle.cond_laws.specs.Conditions.{AllBelow, Cond}
 use Rattle.path_formulas.specs.FormulasOfLists.{IsDrivenBy}
-
-length-words_from : (input : ℕ → ℕ) (ws : List ℕ) (ops : List Op) → length (words_from input ws ops) ≡ length ws + length ops
-length-words_from input ws [] = omega arith
-length-words_from input ws (o ∷ ops) = omega (arith, length-words_from input (ws ++ word_of input (slice_index ws) o ∷ []) ops, length-append ws (word_of input (slice_index ws) o ∷ []))
+use Rattle.bv_term.proofs.ValueLaws.{words_many}
 
 -- there is a word for each term
-pub length-words : (ops : List Op) (zs : List ℤ) → length (words ops zs) ≡ length ops
-unfolding words
-length-words ops zs = omega (arith, length-words_from (input_word zs) [] ops)
+pub length-words : (ops : List Op) (zs : List ℤ) → length (op_words ops zs) ≡ length ops
+unfolding op_words
+length-words ops zs = omega (arith, words_many (input_word zs) [] ops)
 
 -- each of these terms has a word
 pub words_for_terms : (terms : Terms) (conditions : List ℕ) (i : Input) (ws ts : List ℕ)
-    → AllBelow (length terms.ops) conditions → ws ≡ words terms.ops i.values → ts ≡ conditions → AllBelow (length ws) ts
+    → AllBelow (length terms.ops) conditions → ws ≡ op_words terms.ops i.values → ts ≡ conditions → AllBelow (length ws) ts
 words_for_terms terms conditions i ws ts below are same =
     let count : length terms.ops ≡ length ws = sym (ap length are ∙ length-words terms.ops i.values) in
     subst (λ k. AllBelow k ts) count (subst (AllBelow (length terms.ops)) (sym same) below)
 
 -- an input that fits drives the list exactly where the words of its conditions are nonzero
 pub driven_exactly : (p : Program) (q : List ℕ) (i : Input) (terms : Terms) (conditions ws : List ℕ)
-    → fits p i ≡ true → Cond p q terms conditions → ws ≡ words terms.ops i.values
+    → fits p i ≡ true → Cond p q terms conditions → ws ≡ op_words terms.ops i.values
     → IsTrue (all_hold (slice_index ws) conditions) ↔ IsDrivenBy p q i
 unfolding tv
 driven_exactly p q i terms conditions ws fit cond is = (

@@ -11,7 +11,7 @@ use Rattle.cnf_form.specs.declared.assignment.Assignment.{Assignment}
 use Rattle.cnf_form.specs.declared.cnf.Cnf.{Cnf}
 use Rattle.cnf_form.specs.declared.log.Log.{Log}
 use Rattle.rup_check.proofs.Sound.{accepted_refutes}
-use Rattle.bit_circuits.specs.Formula.{VariablesOf, ClausesOf, decoded}
+use Rattle.bit_circuits.specs.Formula.{VariablesOf, ClausesOf, decoded_words}
 use Rattle.path_formulas.specs.FormulasOfLists.{IsDrivenBy, IsDrivenByNone, IsFormulaOfList, HasWorkedLog, input_said, SaysWhatDrives}
 use Rattle.path_formulas.proofs.Saying.{formula_says}
 use Rattle.bit_blast.specs.declared.blasted.Blasted.{Blasted}
@@ -42,10 +42,10 @@ blasted_says p q condition ts (Ok b) is cond fit same variables clauses =
 -- the input that a satisfying assignment says drives the list
 pub sat_drives : (p : Program) (q : List ℕ) (b : Blasted) (told : Cnf) (limit : ℕ) (verdict : Verdict) (assignment : Assignment) (i : Input)
     → SaysWhatDrives p q b.cnf → b.inputs ≡ (TermsOf p q).terms.inputs → told ≡ b.cnf
-    → IsVerdict told limit verdict → verdict ≡ Sat assignment → i.values ≡ decoded b.inputs assignment.values → IsDrivenBy p q i
+    → IsVerdict told limit verdict → verdict ≡ Sat assignment → i.values ≡ decoded_words b.inputs assignment.values → IsDrivenBy p q i
 sat_drives p q b told limit verdict assignment i says are same holds is value =
     let sat : IsVerdict b.cnf limit (Sat assignment) = subst (λ f. IsVerdict f limit (Sat assignment)) same (subst (IsVerdict told limit) is holds) in
-    let said : i ≡ input_said p q assignment.values = ap input_with (value ∙ ap (λ l. decoded l assignment.values) are) in
+    let said : i ≡ input_said p q assignment.values = ap input_with (value ∙ ap (λ l. decoded_words l assignment.values) are) in
     subst (IsDrivenBy p q) (sym said) (says.driven assignment.values sat.0 sat.1)
   where
     input_with : List ℤ → Input

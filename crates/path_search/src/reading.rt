@@ -1,7 +1,7 @@
 //! The input that an assignment says.
 
 ghost use Rattle.std.specs.Prelude.{◌≡◌, IfOk, length};
-ghost use Rattle.bit_circuits.specs.Formula.{decoded};
+ghost use Rattle.bit_circuits.specs.Formula.{decoded_words};
 
 use bit_blast::{Blasted, decode};
 use c_tree::{Input, NoMemory};
@@ -16,7 +16,7 @@ pub(crate) fn input_said(
     assignment: &Assignment,
 ) -> Result<Input, NoMemory>
     requires { length assignment.now.values ≡ blasted.now.cnf.variables }
-    ensures { IfOk result (λ i. i.values ≡ decoded blasted.now.inputs assignment.now.values) }
+    ensures { IfOk result (λ i. i.values ≡ decoded_words blasted.now.inputs assignment.now.values) }
 {
     let values = vec![in alloc; 0i64; blasted.inputs.len()]?;
     let mut input = Input {

@@ -3,18 +3,18 @@
 use Rattle.std.proofs.Common.{◌≡◌, ◌≢◌, ◌≤◌, ◌<◌, ℕ, zero, suc, ◌+◌, Bool, true, false, if◌then◌else◌, List, [], ◌∷◌, ◌++◌, length, drop, get_or, Option, Some, None, refl, sym, ap, ◌∙◌, subst, arith}
 use Rattle.std.specs.Prelude.{◌↔◌, ◌==◌, ◌&&◌, nat_lt, slice_get, slice_set}
 use Rattle.std.specs.List.{list_all}
-use Rattle.std.proofs.lemmas.Bool.{lt-ltb}
+use Rattle.std.proofs.lemmas.Bool.{lt-ltb, and_parts, and_from}
 use Rattle.std.proofs.lemmas.List.{length-set, get_or-set_same, get_or-set_other}
 use Rattle.std.proofs.lemmas.Option.{slice_get-get_or}
 use Rattle.flow_laws.specs.declared.graph.Loop.{Loop}
-use Rattle.flow_laws.specs.Paths.{is_among, most_turns, keeps_each, each_allows, allows, turns_left, turns_left_from, turns_left_on, one_less, has_turn}
-use Rattle.flow_laws.proofs.BoundsOn.{left_on, each_on, each_by_number}
+use Rattle.flow_laws.specs.Paths.{is_in_list, most_turns, keeps_each, each_allows, allows, turns_left, turns_left_from, turns_left_on, one_less, has_turn}
+use Rattle.flow_laws.proofs.Driving.BoundsStep.{left_on, each_on, each_by_number}
 use Rattle.graph_lists.specs.declared.touch.Touch.{Touch}
 use Rattle.graph_lists.specs.declared.touch.Touch.TheVariants.{Enters, Turns}
 use Rattle.graph_lists.specs.Touches.{with_touch, touches_of}
 use Rattle.graph_lists.proofs.Touched.{From, touches_from}
-use Rattle.graph_lists.proofs.Sums.{drop_is, past_end}
 use Rattle.path_walk.specs.Counters.{left_of, is_below, may_touch, after_touches, MayTurn, AreOn, AreAfter}
+use Rattle.plain_laws.proofs.Lists.{drop-read, drop-past, drop-number}
 
 -- ---- entries
 
@@ -30,23 +30,15 @@ touch i m en tu = if en then Some (Enters i m) else (if tu then Some (Turns i) e
 
 -- ---- the loops' numbers are those of counters
 
-both_true : (x y : Bool) → x ≡ true → y ≡ true → (x && y) ≡ true
-both_true x y h k = λ i. h i && k i
-
-both_parts : (x y : Bool) → (x && y) ≡ true → (x ≡ true) × (y ≡ true)
-both_parts true true e = (refl, refl)
-both_parts true false e = absurd (cc)
-both_parts false y e = absurd (cc)
-
 below_with : (n i m : ℕ) (ts : List Touch) → i < n → list_all (is_below n) ts ≡ true → (en tu : Bool) → list_all (is_below n) (with_touch (touch i m en tu) ts) ≡ true
-below_with n i m ts lt h true tu = both_true (nat_lt i n) (list_all (is_below n) ts) (lt-ltb i n lt) h
-below_with n i m ts lt h false true = both_true (nat_lt i n) (list_all (is_below n) ts) (lt-ltb i n lt) h
+below_with n i m ts lt h true tu = and_from (nat_lt i n) (list_all (is_below n) ts) (lt-ltb i n lt) h
+below_with n i m ts lt h false true = and_from (nat_lt i n) (list_all (is_below n) ts) (lt-ltb i n lt) h
 below_with n i m ts lt h false false = h
 
 row_below : (n i : ℕ) (ls : List Loop) (e : ℕ) → i + length ls ≤ n → list_all (is_below n) (touches_of i ls e) ≡ true
 row_below n i [] e le = refl
 row_below n i (l ∷ ls) e le =
-    below_with n i (most_turns l) (touches_of (i + 1) ls e) (omega (arith, le)) (row_below n (i + 1) ls e (omega (arith, le))) (is_among e l.into) (e == l.turn)
+    below_with n i (most_turns l) (touches_of (i + 1) ls e) (omega (arith, le)) (row_below n (i + 1) ls e (omega (arith, le))) (is_in_list e l.into) (e == l.turn)
 
 pub all_below : (ls : List Loop) (e n : ℕ) (ts : List Touch) → ts ≡ touches_of 0 ls e → n ≡ length ls → list_all (is_below n) ts ≡ true
 all_below ls e n ts is many = ap (λ y. list_all (is_below n) y) is ∙ row_below n 0 ls e (omega (arith, many))
@@ -85,10 +77,10 @@ row_on i [] e left le k n l is_n is = absurd (cc is)
 row_on i (x ∷ ls) e left le zero n l is_n is =
     let same : x ≡ l = cc in
     let at : i ≡ n = omega (arith, is_n) in
-    let first = here i (most_turns x) left (touches_of (i + 1) ls e) (omega (arith, le)) (touches_from (i + 1) ls e) (is_among e x.into) (e == x.turn) in
+    let first = here i (most_turns x) left (touches_of (i + 1) ls e) (omega (arith, le)) (touches_from (i + 1) ls e) (is_in_list e x.into) (e == x.turn) in
     subst (λ y. left_of (after_touches left (touches_of i (x ∷ ls) e)) n ≡ turns_left_on y e (left_of left n)) same (subst (λ j. left_of (after_touches left (touches_of i (x ∷ ls) e)) j ≡ turns_left_on x e (left_of left j)) at first)
 row_on i (x ∷ ls) e left le (suc k) n l is_n is =
-    later i (most_turns x) e left (touches_of (i + 1) ls e) n l (λ same. omega (arith, same, is_n)) (λ new long. row_on (i + 1) ls e new (omega (arith, le, long)) k n l (omega (arith, is_n)) is) (is_among e x.into) (e == x.turn)
+    later i (most_turns x) e left (touches_of (i + 1) ls e) n l (λ same. omega (arith, same, is_n)) (λ new long. row_on (i + 1) ls e new (omega (arith, le, long)) k n l (omega (arith, is_n)) is) (is_in_list e x.into) (e == x.turn)
 
 pub are_on : (ls : List Loop) (e : ℕ) (ts : List Touch) (old new : List (Option ℕ)) → ts ≡ touches_of 0 ls e → length old ≡ length ls → new ≡ after_touches old ts → AreOn ls e old new
 are_on ls e ts old new is many same = record {
@@ -107,22 +99,22 @@ may_with left i m ts false true = refl
 may_with left i m ts false false = refl
 
 row_may : (left : List (Option ℕ)) (i : ℕ) (x : Loop) (ls : List Loop) (e : ℕ) → list_all (may_touch left) (touches_of i (x ∷ ls) e) ≡ (allows x e (left_of left i) && list_all (may_touch left) (touches_of (i + 1) ls e))
-row_may left i x ls e = may_with left i (most_turns x) (touches_of (i + 1) ls e) (is_among e x.into) (e == x.turn)
+row_may left i x ls e = may_with left i (most_turns x) (touches_of (i + 1) ls e) (is_in_list e x.into) (e == x.turn)
 
 may_at : (left : List (Option ℕ)) (i : ℕ) (ls : List Loop) (e : ℕ) → list_all (may_touch left) (touches_of i ls e) ≡ true → (k n : ℕ) (l : Loop) → n ≡ i + k → slice_get ls k ≡ Some l → allows l e (left_of left n) ≡ true
 may_at left i [] e h k n l is_n is = absurd (cc is)
 may_at left i (x ∷ ls) e h zero n l is_n is =
     let same : x ≡ l = cc in
     let at : i ≡ n = omega (arith, is_n) in
-    let first = (both_parts (allows x e (left_of left i)) (list_all (may_touch left) (touches_of (i + 1) ls e)) (sym (row_may left i x ls e) ∙ h)).0 in
+    let first = (and_parts (allows x e (left_of left i)) (list_all (may_touch left) (touches_of (i + 1) ls e)) (sym (row_may left i x ls e) ∙ h)).0 in
     subst (λ (y : Loop). allows y e (left_of left n) ≡ true) same (subst (λ j. allows x e (left_of left j) ≡ true) at first)
 may_at left i (x ∷ ls) e h (suc k) n l is_n is =
-    may_at left (i + 1) ls e (both_parts (allows x e (left_of left i)) (list_all (may_touch left) (touches_of (i + 1) ls e)) (sym (row_may left i x ls e) ∙ h)).1 k n l (omega (arith, is_n)) is
+    may_at left (i + 1) ls e (and_parts (allows x e (left_of left i)) (list_all (may_touch left) (touches_of (i + 1) ls e)) (sym (row_may left i x ls e) ∙ h)).1 k n l (omega (arith, is_n)) is
 
 may_all : (left : List (Option ℕ)) (i : ℕ) (ls : List Loop) (e : ℕ) → ((k n : ℕ) (l : Loop) → n ≡ i + k → slice_get ls k ≡ Some l → allows l e (left_of left n) ≡ true) → list_all (may_touch left) (touches_of i ls e) ≡ true
 may_all left i [] e h = refl
 may_all left i (x ∷ ls) e h =
-    row_may left i x ls e ∙ both_true (allows x e (left_of left i)) (list_all (may_touch left) (touches_of (i + 1) ls e)) (h 0 i x (omega arith) refl) (may_all left (i + 1) ls e (λ k n l is_n is. h (suc k) n l (omega (arith, is_n)) is))
+    row_may left i x ls e ∙ and_from (allows x e (left_of left i)) (list_all (may_touch left) (touches_of (i + 1) ls e)) (h 0 i x (omega arith) refl) (may_all left (i + 1) ls e (λ k n l is_n is. h (suc k) n l (omega (arith, is_n)) is))
 
 pub may_turn_is : (ls : List Loop) (e : ℕ) (ts : List Touch) (left : List (Option ℕ)) (r : Bool) → ts ≡ touches_of 0 ls e → r ≡ list_all (may_touch left) ts → (r ≡ true) ↔ MayTurn ls left e
 may_turn_is ls e ts left r is h = (
@@ -137,11 +129,11 @@ may_turn_is ls e ts left r is h = (
 
 pub kept_on : (ls : List Loop) (q : List ℕ) (left : List (Option ℕ)) (e : ℕ) → keeps_each ls q ≡ true → AreAfter ls q left → MayTurn ls left e → keeps_each ls (q ++ e ∷ []) ≡ true
 kept_on ls q left e kept after may =
-    each_on ls q e ∙ both_true (keeps_each ls q) (each_allows ls q e) kept ((each_by_number ls q e).1 (λ k l is. subst (λ m. allows l e m ≡ true) (after.each k l is) (may k l is)))
+    each_on ls q e ∙ and_from (keeps_each ls q) (each_allows ls q e) kept ((each_by_number ls q e).1 (λ k l is. subst (λ m. allows l e m ≡ true) (after.each k l is) (may k l is)))
 
 pub on_kept : (ls : List Loop) (q : List ℕ) (left : List (Option ℕ)) (e : ℕ) → AreAfter ls q left → keeps_each ls (q ++ e ∷ []) ≡ true → MayTurn ls left e
 on_kept ls q left e after kept k l is =
-    let allowed = (both_parts (keeps_each ls q) (each_allows ls q e) (sym (each_on ls q e) ∙ kept)).1 in
+    let allowed = (and_parts (keeps_each ls q) (each_allows ls q e) (sym (each_on ls q e) ∙ kept)).1 in
     subst (λ m. allows l e m ≡ true) (sym (after.each k l is)) ((each_by_number ls q e).0 allowed k l is)
 
 pub after_on : (ls : List Loop) (q : List ℕ) (old new : List (Option ℕ)) (e : ℕ) → AreAfter ls q old → AreOn ls e old new → AreAfter ls (q ++ e ∷ []) new
@@ -170,21 +162,14 @@ pub record IsAlong (ls : List Loop) (list : List ℕ) (left : List (Option ℕ))
 pub along_start : (ls : List Loop) (list : List ℕ) (left : List (Option ℕ)) → NoneStands left → length left ≡ length ls → IsAlong ls list left 0
 along_start ls list left none many = record { each = λ k l is. ap (λ m. turns_left_from l m list) (none k); as_many = many }
 
-next_rest : (xs : List ℕ) (n : ℕ) → n < length xs → drop n xs ≡ get_or xs n 0 ∷ drop (n + 1) xs
-next_rest xs n lt =
-    let e = get_or xs n 0 in
-    let both : Some e ≡ Some (get_or xs n e) = sym (slice_get-get_or xs n 0 lt) ∙ slice_get-get_or xs n e lt in
-    let same : e ≡ get_or xs n e = cc in
-    drop_is xs n e lt same
-
 pub along_next : (ls : List Loop) (list : List ℕ) (old new : List (Option ℕ)) (n : ℕ) → n < length list → IsAlong ls list old n → AreOn ls (get_or list n 0) old new → IsAlong ls list new (n + 1)
 along_next ls list old new n lt h on = record {
-  each = λ k l has. ap (λ m. turns_left_from l m (drop (n + 1) list)) (on.each k l has) ∙ ap (turns_left_from l (left_of old k)) (sym (next_rest list n lt)) ∙ h.each k l has;
+  each = λ k l has. ap (λ m. turns_left_from l m (drop (n + 1) list)) (on.each k l has) ∙ ap (turns_left_from l (left_of old k)) (sym (drop-number list n lt)) ∙ h.each k l has;
   as_many = on.as_many ∙ h.as_many;
 }
 
 pub along_all : (ls : List Loop) (list : List ℕ) (left : List (Option ℕ)) (n : ℕ) → length list ≤ n → IsAlong ls list left n → AreAfter ls list left
 along_all ls list left n le h = record {
-  each = λ k l is. sym (ap (turns_left_from l (left_of left k)) (past_end list n le)) ∙ h.each k l is;
+  each = λ k l is. sym (ap (turns_left_from l (left_of left k)) (drop-past list n le)) ∙ h.each k l is;
   as_many = h.as_many;
 }

@@ -5,10 +5,10 @@ use Rattle.std.proofs.lemmas.Bool.{eq-eqb, false≢true}
 use Rattle.c_tree.specs.declared.program.Program.{Program}
 use Rattle.flow_laws.specs.declared.graph.Edge.{Edge}
 use Rattle.flow_laws.specs.Graphs.{graph, edges, loops}
-use Rattle.flow_laws.specs.Paths.{follows, count, IsPath, keeps_each}
+use Rattle.flow_laws.specs.Paths.{follows, edge_count, IsPath, keeps_each}
 use Rattle.flow_laws.specs.Claims.{Begins}
-use Rattle.flow_laws.proofs.Joining.{follows_begin, paths_end, counts_join}
-use Rattle.flow_laws.proofs.BoundsOn.{each_begin}
+use Rattle.flow_laws.proofs.Counts.ListsJoined.{follows_begin, paths_end, counts_join}
+use Rattle.flow_laws.proofs.Driving.BoundsStep.{each_begin}
 use Rattle.path_walk.specs.declared.next.Next.{Next}
 use Rattle.path_walk.specs.declared.next.Next.TheVariants.{Long, Whole, Dead, Fork}
 use Rattle.path_walk.specs.Walks.{MayFollow, IsForced, IsFork, IsWithin, IsAnswer, BeginsAs}
@@ -16,7 +16,7 @@ use Rattle.path_walk.specs.Walks.{MayFollow, IsForced, IsFork, IsWithin, IsAnswe
 path_follows : (es : List Edge) (q : List ℕ) → IsPath es q → follows es q ≡ true
 path_follows es q path = ap is_some path
 
-pub count_one : (e : ℕ) → count (e ∷ []) e ≡ 1
+pub count_one : (e : ℕ) → edge_count (e ∷ []) e ≡ 1
 count_one e = ap (λ b. if b then 1 else 0) (eq-eqb e e refl)
 
 -- no edge follows a path
@@ -37,9 +37,9 @@ record GoesOn (p : Program) (prefix room done w : List ℕ) : Type 0 where
   kept : keeps_each (loops (graph p)) w ≡ true
   rest : List ℕ
   is : w ≡ (prefix ++ done) ++ rest
-  no_further : (e : ℕ) → count done e + count rest e ≤ slice_index room e
+  no_further : (e : ℕ) → edge_count done e + edge_count rest e ≤ slice_index room e
 
-follow : (p : Program) (prefix room done w rest : List ℕ) (e : ℕ) → IsPath (edges (graph p)) w → keeps_each (loops (graph p)) w ≡ true → w ≡ (prefix ++ done) ++ (e ∷ rest) → count done e + count (e ∷ rest) e ≤ slice_index room e → MayFollow p prefix room done e
+follow : (p : Program) (prefix room done w rest : List ℕ) (e : ℕ) → IsPath (edges (graph p)) w → keeps_each (loops (graph p)) w ≡ true → w ≡ (prefix ++ done) ++ (e ∷ rest) → edge_count done e + edge_count (e ∷ rest) e ≤ slice_index room e → MayFollow p prefix room done e
 follow p prefix room done w rest e path kept is within =
     let on : w ≡ ((prefix ++ done) ++ e ∷ []) ++ rest = is ∙ step_on (prefix ++ done) e rest in
     let parts = counts_join (e ∷ []) rest e in
@@ -55,15 +55,15 @@ stops : (p : Program) (prefix room done w : List ℕ) (e : ℕ) → IsPath (edge
 stops p prefix room done w e path is may =
     ends_at_exit p (prefix ++ done) e (subst (IsPath (edges (graph p))) (is ∙ append-nil (prefix ++ done)) path) may.contiguous
 
-on_room : (room done rest : List ℕ) (d e : ℕ) → d ≡ e → ((j : ℕ) → count done j + count (d ∷ rest) j ≤ slice_index room j) → (j : ℕ) → count (done ++ e ∷ []) j + count rest j ≤ slice_index room j
+on_room : (room done rest : List ℕ) (d e : ℕ) → d ≡ e → ((j : ℕ) → edge_count done j + edge_count (d ∷ rest) j ≤ slice_index room j) → (j : ℕ) → edge_count (done ++ e ∷ []) j + edge_count rest j ≤ slice_index room j
 on_room room done rest d e same within j =
-    let le : count done j + count (e ∷ rest) j ≤ slice_index room j = subst (λ k. count done j + count (k ∷ rest) j ≤ slice_index room j) same (within j) in
+    let le : edge_count done j + edge_count (e ∷ rest) j ≤ slice_index room j = subst (λ k. edge_count done j + edge_count (k ∷ rest) j ≤ slice_index room j) same (within j) in
     let parts = counts_join (e ∷ []) rest j in
     let whole = counts_join done (e ∷ []) j in
     omega (arith, le, parts, whole)
 
 -- it begins with what had to follow
-along : (p : Program) (prefix room more w : List ℕ) → IsForced p prefix room more → IsPath (edges (graph p)) w → keeps_each (loops (graph p)) w ≡ true → (done after rest : List ℕ) → more ≡ done ++ after → w ≡ (prefix ++ done) ++ rest → ((e : ℕ) → count done e + count rest e ≤ slice_index room e) → GoesOn p prefix room more w
+along : (p : Program) (prefix room more w : List ℕ) → IsForced p prefix room more → IsPath (edges (graph p)) w → keeps_each (loops (graph p)) w ≡ true → (done after rest : List ℕ) → more ≡ done ++ after → w ≡ (prefix ++ done) ++ rest → ((e : ℕ) → edge_count done e + edge_count rest e ≤ slice_index room e) → GoesOn p prefix room more w
 along p prefix room more w forced path kept done [] rest is_more is within =
     let same : done ≡ more = sym (is_more ∙ append-nil done) in
     subst (λ m. GoesOn p prefix room m w) same (record { path = path; kept = kept; rest = rest; is = is; no_further = within })
@@ -87,11 +87,11 @@ begins p prefix room more list q is forced within =
     (g.rest, g.is ∙ ap (λ l. l ++ g.rest) (sym is))
 
 -- where none may follow and the list is no path, no path goes on
-dead : (p : Program) (prefix room more q rest : List ℕ) → (IsPath (edges (graph p)) (prefix ++ more) → ⊥) → ((e : ℕ) → MayFollow p prefix room more e → ⊥) → IsPath (edges (graph p)) q → keeps_each (loops (graph p)) q ≡ true → q ≡ (prefix ++ more) ++ rest → ((e : ℕ) → count more e + count rest e ≤ slice_index room e) → ⊥
+dead : (p : Program) (prefix room more q rest : List ℕ) → (IsPath (edges (graph p)) (prefix ++ more) → ⊥) → ((e : ℕ) → MayFollow p prefix room more e → ⊥) → IsPath (edges (graph p)) q → keeps_each (loops (graph p)) q ≡ true → q ≡ (prefix ++ more) ++ rest → ((e : ℕ) → edge_count more e + edge_count rest e ≤ slice_index room e) → ⊥
 dead p prefix room more q [] no_path none path kept is within = no_path (subst (IsPath (edges (graph p))) (is ∙ append-nil (prefix ++ more)) path)
 dead p prefix room more q (e ∷ rest) no_path none path kept is within = none e (follow p prefix room more q rest e path kept is (within e))
 
-parts : (p : Program) (prefix room more a b q rest : List ℕ) (left right : ℕ) → a ≡ (prefix ++ more) ++ left ∷ [] → b ≡ (prefix ++ more) ++ right ∷ [] → IsFork p prefix room more left right → IsPath (edges (graph p)) q → keeps_each (loops (graph p)) q ≡ true → q ≡ (prefix ++ more) ++ rest → ((e : ℕ) → count more e + count rest e ≤ slice_index room e) → BeginsAs (Fork a b) q
+parts : (p : Program) (prefix room more a b q rest : List ℕ) (left right : ℕ) → a ≡ (prefix ++ more) ++ left ∷ [] → b ≡ (prefix ++ more) ++ right ∷ [] → IsFork p prefix room more left right → IsPath (edges (graph p)) q → keeps_each (loops (graph p)) q ≡ true → q ≡ (prefix ++ more) ++ rest → ((e : ℕ) → edge_count more e + edge_count rest e ≤ slice_index room e) → BeginsAs (Fork a b) q
 parts p prefix room more a b q [] left right is_a is_b fork path kept is within = absurd (stops p prefix room more q left path is fork.left_may)
 parts p prefix room more a b q (e ∷ rest) left right is_a is_b fork path kept is within =
     let may = follow p prefix room more q rest e path kept is (within e) in

@@ -6,22 +6,23 @@ use Rattle.std.proofs.lemmas.List.{length-set, get_or-set_same, get_or-set_other
 use Rattle.std.proofs.lemmas.Option.{slice_get_within}
 use Rattle.std.proofs.lemmas.Result.{IfOk-weaker}
 use Rattle.c_tree.specs.declared.program.Program.{Program}
-use Rattle.c_tree.specs.WellFormed.{WellFormed}
+use Rattle.c_tree.specs.Keeping.WellFormed.{WellFormed}
 use Rattle.flow_laws.specs.declared.graph.Edge.{Edge}
 use Rattle.flow_laws.specs.Sites.{Copy}
 use Rattle.flow_laws.specs.Graphs.{copies, sites_of, graph, edges, loops}
-use Rattle.flow_laws.specs.Paths.{led, led_on, follows, keeps_each, count, IsPath}
-use Rattle.flow_laws.proofs.Ends.{edges_join}
-use Rattle.flow_laws.proofs.Joining.{goes_on, leads_on, counts_join}
+use Rattle.flow_laws.specs.Paths.{end_node, end_node_on, follows, keeps_each, edge_count, IsPath}
+use Rattle.flow_laws.proofs.Graphs.EndsLead.{edges_join}
+use Rattle.flow_laws.proofs.Counts.ListsJoined.{goes_on, leads_on, counts_join}
 use Rattle.path_walk.specs.declared.next.Next.{Next}
 use Rattle.path_walk.specs.declared.next.Next.TheVariants.{Long, Whole, Dead}
 use Rattle.path_walk.specs.declared.step.Step.{Step}
 use Rattle.path_walk.specs.declared.step.Step.TheVariants.{Stuck, On, Parts}
 use Rattle.path_walk.specs.Counters.{AreOn, AreAfter}
 use Rattle.path_walk.specs.Walks.{MayFollow, MustFollow, IsForced, IsAnswer, IsWithin, BeginsAs}
-use Rattle.path_walk.specs.Steps.{IsFree, IsChosen, Stands, LeadsTo, forked}
+use Rattle.path_walk.specs.Steps.{IsFree, IsChosen, Stands, LeadsTo, fork_of}
 use Rattle.path_walk.proofs.Counting.{kept_on, on_kept, after_on}
 use Rattle.path_walk.proofs.Covers.{count_one, further, cover}
+use Rattle.plain_laws.proofs.Numbers.{same_or_other}
 
 no_cons : (done after : List ℕ) (e : ℕ) → [] ≡ done ++ (e ∷ after) → ⊥
 no_cons [] after e h = cc
@@ -88,28 +89,25 @@ forced_on p prefix room more e forced must done after d is =
     (λ last. subst (λ l. MustFollow p prefix room l d) (sym last.0) (subst (MustFollow p prefix room more) (sym last.1) must))
     (last_or more done after e d is)
 
-dec : (a b : ℕ) → (a ≡ b) ⊎ (a ≢ b)
-dec a b = grind (arith, tests)
-
-count_other : (e j : ℕ) → e ≢ j → count (e ∷ []) j ≡ 0
+count_other : (e j : ℕ) → e ≢ j → edge_count (e ∷ []) j ≡ 0
 count_other e j other = ap (λ b. if b then 1 else 0) (ne_eqb e j other)
 
 -- the room is less by the edge
-room_on : (room free more : List ℕ) (e : ℕ) → e < length free → ((j : ℕ) → slice_index free j ≡ slice_index room j - count more j) → (j : ℕ) → slice_index (slice_set free e (slice_index free e - 1)) j ≡ slice_index room j - count (more ++ e ∷ []) j
+room_on : (room free more : List ℕ) (e : ℕ) → e < length free → ((j : ℕ) → slice_index free j ≡ slice_index room j - edge_count more j) → (j : ℕ) → slice_index (slice_set free e (slice_index free e - 1)) j ≡ slice_index room j - edge_count (more ++ e ∷ []) j
 room_on room free more e lt is j =
     let parts = counts_join more (e ∷ []) j in
     ⊎_elim
     (λ same.
-    let once : count (e ∷ []) j ≡ 1 = ap (λ k. count (e ∷ []) k) same ∙ count_one e in
+    let once : edge_count (e ∷ []) j ≡ 1 = ap (λ k. edge_count (e ∷ []) k) same ∙ count_one e in
     let set : slice_index (slice_set free e (slice_index free e - 1)) j ≡ slice_index free e - 1 = ap (λ k. slice_index (slice_set free e (slice_index free e - 1)) k) same ∙ get_or-set_same free e (slice_index free e - 1) 0 lt in
-    let old : slice_index free e ≡ slice_index room j - count more j = ap (slice_index free) (sym same) ∙ is j in
+    let old : slice_index free e ≡ slice_index room j - edge_count more j = ap (slice_index free) (sym same) ∙ is j in
     omega (arith, parts, once, set, old))
     (λ other.
     let never = count_other e j (λ k. other (sym k)) in
     let set = get_or-set_other free e j (slice_index free e - 1) 0 other in
     let old = is j in
     omega (arith, parts, never, set, old))
-    (dec j e)
+    (same_or_other j e)
 
 pub stands_on : (p : Program) (prefix room list free : List ℕ) (left : List (Option ℕ)) (at e : ℕ) (list' free' : List ℕ) (left' : List (Option ℕ)) (d : Edge) → length room ≡ length (edges (graph p)) → Stands p prefix room list free left at → length list ≤ 16384 → IsChosen p free left at (On e) → list' ≡ list ++ e ∷ [] → free' ≡ slice_set free e (slice_index free e - 1) → AreOn (loops (graph p)) e left left' → slice_get (edges (graph p)) e ≡ Some d → Stands p prefix room list' free' left' d.to
 stands_on p prefix room list free left at e list' free' left' d rooms s short chosen is_list is_free on is_d = record {
@@ -165,7 +163,7 @@ dead p prefix room list free left at s short other chosen = (
   },
 )
 
-pub parted : (p : Program) (prefix room list free : List ℕ) (left : List (Option ℕ)) (at a b : ℕ) → Stands p prefix room list free left at → length list ≤ 16384 → IsChosen p free left at (Parts a b) → IsAnswer p prefix room (forked list a b)
+pub parted : (p : Program) (prefix room list free : List ℕ) (left : List (Option ℕ)) (at a b : ℕ) → Stands p prefix room list free left at → length list ≤ 16384 → IsChosen p free left at (Parts a b) → IsAnswer p prefix room (fork_of list a b)
 parted p prefix room list free left at a b s short chosen = record {
   more = s.more;
   left = a;
@@ -185,24 +183,6 @@ parted p prefix room list free left at a b s short chosen = record {
 
 -- ---- edges of a list that leads on
 
-named : (es : List Edge) (o : Option Edge) (m j : ℕ) (go : ℕ → Option ℕ) → slice_get es j ≡ o → is_some (led_on m o go) ≡ true → (j < length es) × ((e : Edge) × (is_some (go e.to) ≡ true))
-named es None m j go is h = absurd (false≢true h)
-named es (Some e) m j go is h = (
-  slice_get_within es j e is,
-  (e, elim (e.from == m) as (λ b. is_some (if b then go e.to else None) ≡ true → is_some (go e.to) ≡ true) [ true ↦ λ k. k | false ↦ λ k. absurd (false≢true k) ] h),
-)
-
-edge_from : (es : List Edge) (m : ℕ) (q : List ℕ) → is_some (led es m q) ≡ true → (k : ℕ) → k < length q → get_or q k 0 < length es
-edge_from es m [] h k lt = absurd (omega (arith, lt))
-edge_from es m (j ∷ q) h zero lt = (named es (slice_get es j) m j (λ n. led es n q) refl h).0
-edge_from es m (j ∷ q) h (suc k) lt =
-    let next = (named es (slice_get es j) m j (λ n. led es n q) refl h).1 in
-    edge_from es next.0.to q next.1 k (omega (arith, lt))
-
--- each names an edge of the graph
-pub edge_at : (es : List Edge) (list : List ℕ) (k : ℕ) → follows es list ≡ true → k < length list → get_or list k 0 < length es
-edge_at es list k on lt = edge_from es 0 list on k lt
-
 -- ---- the node to which a list leads is one of the graph
 
 some_sites : (o : Option Copy) → 0 < length (sites_of o)
@@ -213,15 +193,15 @@ some_nodes : (p : Program) → 0 < length (graph p)
 unfolding graph
 some_nodes p = some_sites (slice_get (copies [] p.funcs) p.entry)
 
-node_step : (m : ℕ) (o : Option Edge) (go : ℕ → Option ℕ) (n : ℕ) (P : Type 0) → ((e : Edge) → o ≡ Some e → go e.to ≡ Some n → P) → led_on m o go ≡ Some n → P
+node_step : (m : ℕ) (o : Option Edge) (go : ℕ → Option ℕ) (n : ℕ) (P : Type 0) → ((e : Edge) → o ≡ Some e → go e.to ≡ Some n → P) → end_node_on m o go ≡ Some n → P
 node_step m None go n P each leads = absurd (cc)
 node_step m (Some e) go n P each leads =
     elim (e.from == m) as (λ b. (if b then go e.to else None) ≡ Some n → P) [ true ↦ λ k. each e refl k | false ↦ λ k. absurd (cc) ] leads
 
-node_from : (p : Program) (q : List ℕ) (m n : ℕ) → WellFormed p → m < length (graph p) → led (edges (graph p)) m q ≡ Some n → n < length (graph p)
+node_from : (p : Program) (q : List ℕ) (m n : ℕ) → WellFormed p → m < length (graph p) → end_node (edges (graph p)) m q ≡ Some n → n < length (graph p)
 node_from p [] m n formed lt h = let same : m ≡ n = cc in subst (λ k. k < length (graph p)) same lt
 node_from p (j ∷ q) m n formed lt h =
-    node_step m (slice_get (edges (graph p)) j) (λ k. led (edges (graph p)) k q) n (n < length (graph p)) (λ e is rest. node_from p q e.to n formed (edges_join p formed j e is).to rest) h
+    node_step m (slice_get (edges (graph p)) j) (λ k. end_node (edges (graph p)) k q) n (n < length (graph p)) (λ e is rest. node_from p q e.to n formed (edges_join p formed j e is).to rest) h
 
 pub node_of : (p : Program) (q : List ℕ) (n : ℕ) → WellFormed p → LeadsTo p q n → n < length (graph p)
 node_of p q n formed h = node_from p q 0 n formed (some_nodes p) h

@@ -1,5 +1,21 @@
 -- The turns that are left of each loop, as they are counted edge by edge. This project's own.
-use Rattle.std.specs.Prelude.{◌≡◌, ℕ, nat_lt, Bool, true, List, [], ◌∷◌, length, Option, Some, None, slice_get, slice_set, slice_index_or}
+use Rattle.std.specs.Prelude.{
+  ◌≡◌,
+  ℕ,
+  nat_lt,
+  Bool,
+  true,
+  List,
+  [],
+  ◌∷◌,
+  length,
+  Option,
+  Some,
+  None,
+  slice_get,
+  slice_set,
+  slice_index_or,
+}
 use Rattle.flow_laws.specs.declared.graph.Loop.{Loop}
 use Rattle.flow_laws.specs.Paths.{allows, turns_left, turns_left_on, one_less, has_turn}
 use Rattle.graph_lists.specs.declared.touch.Touch.{Touch}

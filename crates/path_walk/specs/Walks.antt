@@ -1,21 +1,22 @@
--- How a list of edges goes on while only one edge may follow, where it stops, and what that says of paths. This project's own.
+-- How a list of edges goes on while only one edge may follow, where it stops, and what that says of paths. This
+-- project's own.
 use Rattle.std.specs.Prelude.{◌≡◌, ◌⊎◌, ◌≤◌, ◌<◌, ℕ, true, List, [], ◌∷◌, ◌++◌, length, slice_index}
 use Rattle.c_tree.specs.declared.program.Program.{Program}
 use Rattle.flow_laws.specs.declared.graph.Way.TheVariants.{True, False}
 use Rattle.flow_laws.specs.Graphs.{graph, edges, loops}
-use Rattle.flow_laws.specs.Paths.{follows, keeps_each, count, IsPath, LeavesBy}
+use Rattle.flow_laws.specs.Paths.{follows, keeps_each, edge_count, IsPath, LeavesBy}
 use Rattle.flow_laws.specs.Claims.{Begins}
 use Rattle.path_walk.specs.declared.next.Next.{Next}
 use Rattle.path_walk.specs.declared.next.Next.TheVariants.{Long, Whole, Dead, Fork}
 
 -- ---- going on
 
--- behind the prefix and `more`, the edge may follow: the list then is contiguous from Entry and keeps the loops' bounds, and the edge has
--- room left
+-- behind the prefix and `more`, the edge may follow: the list then is contiguous from Entry and keeps the loops'
+-- bounds, and the edge has room left
 pub record MayFollow (p : Program) (prefix room more : List ℕ) (e : ℕ) : Type 0 where
   pub contiguous : follows (edges (graph p)) ((prefix ++ more) ++ e ∷ []) ≡ true
   pub kept : keeps_each (loops (graph p)) ((prefix ++ more) ++ e ∷ []) ≡ true
-  pub has_room : count more e < slice_index room e
+  pub has_room : edge_count more e < slice_index room e
 
 -- the list so far has at most 16,384 edges, and this edge may follow and no other
 pub record MustFollow (p : Program) (prefix room more : List ℕ) (e : ℕ) : Type 0 where
@@ -82,9 +83,10 @@ pub record IsWithin (p : Program) (prefix room q : List ℕ) : Type 0 where
   pub kept : keeps_each (loops (graph p)) q ≡ true
   pub rest : List ℕ
   pub begins : q ≡ prefix ++ rest
-  pub no_further : (e : ℕ) → count rest e ≤ slice_index room e
+  pub no_further : (e : ℕ) → edge_count rest e ≤ slice_index room e
 
--- the list begins with that of the answer, or with one of its two; with none where the answer is that no edge may follow
+-- the list begins with that of the answer, or with one of its two; with none where the answer is that no edge may
+-- follow
 abbrev pub BeginsAs : Next → List ℕ → Type 0
 BeginsAs (Long l) q = Begins l q
 BeginsAs (Whole l) q = Begins l q

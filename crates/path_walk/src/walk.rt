@@ -4,7 +4,7 @@ ghost use Rattle.std.specs.Prelude.{◌≡◌, ◌<◌, ◌-◌, ℕ, List, true
 ghost use Rattle.flow_laws.specs.Graphs.{graph, edges, loops};
 ghost use Rattle.flow_laws.specs.Paths.{follows, keeps_each};
 ghost use Rattle.path_walk.specs.Walks.{IsAnswer, IsWithin, BeginsAs};
-ghost use Rattle.path_walk.specs.Steps.{LeadsTo, forked};
+ghost use Rattle.path_walk.specs.Steps.{LeadsTo, fork_of};
 
 use crate::counters::{counters, turn};
 use crate::next::Next;
@@ -20,21 +20,21 @@ const EXIT: u32 = 1;
 /// How many edges a list has at most that goes on.
 const MOST: usize = 16_384;
 
-/// The prefix, with each edge that has to follow. `room` has an entry for each edge of the plan: how often it may still be
-/// taken, behind the prefix. These rules are tried in this order, again after each edge that is taken:
+/// The prefix, with each edge that has to follow. `room` has an entry for each edge of the plan: how often it may
+/// still be taken, behind the prefix. These rules are tried in this order, again after each edge that is taken:
 ///
 /// 1. Where the list, the prefix included, has 16,385 edges or more, the answer is `Long` with the list.
 /// 2. Where the list ends in Exit, the answer is `Whole` with the list, which is a path.
-/// 3. Else the edges are looked at that leave the end of the list, still have room and keep the loops' bounds. Where there
-///    is none, the answer is `Dead` with the list.
+/// 3. Else the edges are looked at that leave the end of the list, still have room and keep the loops' bounds. Where
+/// there is none, the answer is `Dead` with the list.
 /// 4. Where there are two, the answer is `Fork` with the two extended lists, `True` first.
 /// 5. Where there is one, it is taken.
 ///
-/// So each path that begins with the prefix, keeps the loops' bounds and goes no further than the room begins with the list
-/// of the answer, or with one of its two; after `Dead` there is none.
+/// So each path that begins with the prefix, keeps the loops' bounds and goes no further than the room begins with the
+/// list of the answer, or with one of its two; after `Dead` there is none.
 ///
-/// The time is linear in the plan's edges and loops and in the list: at each edge it looks at the loops that the edge enters
-/// or turns. The refusal `NoMemory` is want of memory.
+/// The time is linear in the plan's edges and loops and in the list: at each edge it looks at the loops that the edge
+/// enters or turns. The refusal `NoMemory` is want of memory.
 pub fn extend(alloc: Global, plan: &Plan, prefix: &[u16], room: &[u64]) -> Result<Next, NoMemory>
     requires contiguous { follows (edges (graph plan.now.program)) prefix.now ≡ true }
     requires kept { keeps_each (loops (graph plan.now.program)) prefix.now ≡ true }
@@ -89,7 +89,7 @@ fn take(room: &mut Items<u64>, e: u16)
 }
 
 fn fork(alloc: Global, list: Items<u16>, yes: u16, no: u16) -> Result<Next, NoMemory>
-    ensures { IfOk result (λ next. next ≡ forked list yes no) }
+    ensures { IfOk result (λ next. next ≡ fork_of list yes no) }
 {
     let mut first = Items::from_slice(alloc, list.as_slice())?;
     let mut second = list;

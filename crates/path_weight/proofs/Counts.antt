@@ -6,13 +6,15 @@ use Rattle.std.proofs.lemmas.Bool.Decides.{eqb_tells}
 use Rattle.c_tree.specs.declared.program.Program.{Program}
 use Rattle.flow_laws.specs.Graphs.{graph, edges}
 use Rattle.cond_laws.specs.Weights.{edge_weight, sum_weight}
-use Rattle.flow_laws.specs.Paths.{count}
-use Rattle.path_weight.specs.Capped.{capped}
+use Rattle.flow_laws.specs.Paths.{edge_count}
+use Rattle.path_weight.specs.Capped.{capped_weight}
+use Rattle.plain_laws.proofs.Numbers.{min_of_sum}
+use Rattle.flow_laws.proofs.Counts.CountSums.{count_same, count_other}
 
 -- the edges below n, as often as the list has them
 abbrev pub by_counts : (ℕ → ℕ) → List ℕ → ℕ → ℕ
 by_counts w q zero = 0
-by_counts w q (suc n) = by_counts w q n + w n * count q n
+by_counts w q (suc n) = by_counts w q n + w n * edge_count q n
 
 abbrev pub edge_at : Program → ℕ → ℕ
 edge_at p j = edge_weight p (slice_get (edges (graph p)) j)
@@ -22,12 +24,6 @@ none_counted w zero = refl
 none_counted w (suc n) = omega (arith, none_counted w n)
 
 -- ---- with one edge more
-
-count_same : (q : List ℕ) (j n : ℕ) → (j == n) ≡ true → count (j ∷ q) n ≡ suc (count q n)
-count_same q j n h = ap (λ c. if c then suc (count q n) else count q n) h
-
-count_other : (q : List ℕ) (j n : ℕ) → (j == n) ≡ false → count (j ∷ q) n ≡ count q n
-count_other q j n h = ap (λ c. if c then suc (count q n) else count q n) h
 
 one_later : (w : ℕ → ℕ) (j : ℕ) (q : List ℕ) (n : ℕ) → n ≤ j → by_counts w (j ∷ q) n ≡ by_counts w q n
 one_later w j q zero le = refl
@@ -56,10 +52,6 @@ pub sum_is : (p : Program) (q : List ℕ) (n : ℕ) → All (λ j. j < n) q → 
 sum_is p [] n all = sym (none_counted (edge_at p) n)
 sum_is p (j ∷ q) n all = ap (λ k. edge_at p j + k) (sum_is p q n (λ k d lt. all (suc k) d (omega (arith, lt)))) ∙ sym (one_more (edge_at p) j q n (all 0 j (omega arith)))
 
--- held, with one edge more
-joined : (m a b : ℕ) → min (min a m + min b m) m ≡ min (a + b) m
-joined m a b = omega arith
-
-pub next_edge : (w : ℕ → ℕ) (q : List ℕ) (n sum part new times : ℕ) → new ≡ min (sum + part) (2 ^ 64 - 1) → sum ≡ capped (by_counts w q n) → part ≡ capped (w n * times) → times ≡ count q n → new ≡ capped (by_counts w q (n + 1))
+pub next_edge : (w : ℕ → ℕ) (q : List ℕ) (n sum part new times : ℕ) → new ≡ min (sum + part) (2 ^ 64 - 1) → sum ≡ capped_weight (by_counts w q n) → part ≡ capped_weight (w n * times) → times ≡ edge_count q n → new ≡ capped_weight (by_counts w q (n + 1))
 next_edge w q n sum part new times h is each t =
-    h ∙ (λ i. min (is i + (each ∙ ap (λ k. capped (w n * k)) t) i) (2 ^ 64 - 1)) ∙ joined (2 ^ 64 - 1) (by_counts w q n) (w n * count q n) ∙ ap (λ k. capped (by_counts w q k)) (sym (add-one n))
+    h ∙ (λ i. min (is i + (each ∙ ap (λ k. capped_weight (w n * k)) t) i) (2 ^ 64 - 1)) ∙ min_of_sum (2 ^ 64 - 1) (by_counts w q n) (w n * edge_count q n) ∙ ap (λ k. capped_weight (by_counts w q k)) (sym (add-one n))

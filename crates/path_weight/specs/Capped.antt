@@ -7,8 +7,8 @@ use Rattle.c_tree.specs.declared.program.Local.{Local}
 use Rattle.c_tree.specs.declared.program.Global.{Global}
 use Rattle.cond_laws.specs.Weights.{bin_weight, read_weight, expr_weight}
 
-abbrev pub capped : ℕ → ℕ
-capped w = min w (2 ^ 64 - 1)
+abbrev pub capped_weight : ℕ → ℕ
+capped_weight w = min w (2 ^ 64 - 1)
 
 -- what is assigned: of `p op= e` that of `p op e`
 abbrev pub source_weight : List Local → List Global → Place → Option BinOp → Expr → ℕ

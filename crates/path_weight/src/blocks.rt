@@ -1,12 +1,12 @@
 //! The weight of a block, which is sought by its number along the statements of a function.
 
 ghost use Rattle.std.specs.Prelude.{◌≡◌, [], ◌∷◌, false, nat_lt, if◌then◌else◌};
-ghost use Rattle.c_tree.specs.Blocks.{is_simple};
-ghost use Rattle.c_tree.specs.Statements.{held};
+ghost use Rattle.c_tree.specs.Meaning.Blocks.{is_simple};
+ghost use Rattle.c_tree.specs.Meaning.Statements.{held_stmts};
 ghost use Rattle.flow_laws.specs.BlockLists.{Asks, Gives, Jumps, Calls};
 ghost use Rattle.flow_laws.specs.BlockLists.{block_of_run, block_at, blocks_of_stmt, blocks_of_list};
 ghost use Rattle.cond_laws.specs.Weights as spec;
-ghost use Rattle.path_weight.specs.Capped.{capped};
+ghost use Rattle.path_weight.specs.Capped.{capped_weight};
 ghost use Rattle.path_weight.specs.Sought.{sought, block_part, copy_weight};
 
 use crate::expressions::{expr_weight, list_weight, optional_weight};
@@ -93,7 +93,7 @@ fn seek_call(
 
 // The arguments of a call of a function above.
 fn call_weight(scope: Scope, callee: u32, given: &[Expr]) -> u64
-    ensures { result ≡ capped
+    ensures { result ≡ capped_weight
         (if nat_lt callee scope.entry.func
         then spec.list_weight scope.entry.locals.now scope.entry.globals.now given.now else 0) }
 {
@@ -128,7 +128,7 @@ fn seek_list(scope: Scope, list: &[Stmt], number: u32) -> Result<u32, Found>
 #[cycle(seek)]
 fn seek_part(scope: Scope, part: &Option<Boxed<Stmt>>, left: u32) -> Result<u32, Found>
     ensures { result ≡ sought (block_part scope.entry.locals.now scope.entry.globals.now scope.entry.func)
-        (blocks_of_list [] (held part.now)) left }
+        (blocks_of_list [] (held_stmts part.now)) left }
 {
     match part {
         None => Ok(left),
@@ -184,7 +184,7 @@ fn seek(scope: Scope, stmt: &Stmt, left: u32) -> Result<u32, Found>
 
 /// The weight of a copy of the block of this name.
 pub(crate) fn block_weight(program: &Program, name: BlockName) -> u64
-    ensures { result ≡ capped (copy_weight program.now name.func (block_at program.now name)) }
+    ensures { result ≡ capped_weight (copy_weight program.now name.func (block_at program.now name)) }
 {
     let Some(func) = program.funcs.get(name.func as usize) else {
         return 0;

@@ -2,7 +2,7 @@
 
 ghost use Rattle.std.specs.Prelude.{◌≡◌, ◌+◌, ◌*◌};
 ghost use Rattle.cond_laws.specs.Weights as spec;
-ghost use Rattle.path_weight.specs.Capped.{capped};
+ghost use Rattle.path_weight.specs.Capped.{capped_weight};
 
 use crate::scope::{Scope, length_of};
 use c_tree::{BinOp, Expr, UnOp, Var};
@@ -32,7 +32,8 @@ pub(crate) fn bin_weight(op: BinOp) -> u64
 
 /// The weight of an element of an array, with an index of this weight.
 pub(crate) fn element_weight(scope: Scope, array: Var, index: u64) -> u64
-    ensures { result ≡ capped (32 * spec.length_of scope.entry.locals.now scope.entry.globals.now array + index) }
+    ensures { result ≡ capped_weight (32 * spec.length_of scope.entry.locals.now scope.entry.globals.now array + index)
+        }
 {
     let length = u64::from(length_of(scope, array));
     (32 * length).saturating_add(index)
@@ -41,7 +42,7 @@ pub(crate) fn element_weight(scope: Scope, array: Var, index: u64) -> u64
 /// The weight of an expression.
 #[tactic(auto, using(crate::proofs::WeightLayers::weight_layers))]
 pub(crate) fn expr_weight(scope: Scope, e: &Expr) -> u64
-    ensures { result ≡ capped (spec.expr_weight scope.entry.locals.now scope.entry.globals.now e.now) }
+    ensures { result ≡ capped_weight (spec.expr_weight scope.entry.locals.now scope.entry.globals.now e.now) }
 {
     match e {
         Expr::Num(_, _) => 1,
@@ -61,7 +62,7 @@ pub(crate) fn expr_weight(scope: Scope, e: &Expr) -> u64
 
 /// The weight of an expression, if there is one.
 pub(crate) fn optional_weight(scope: Scope, e: &Option<Expr>) -> u64
-    ensures { result ≡ capped (spec.optional_weight scope.entry.locals.now scope.entry.globals.now e.now) }
+    ensures { result ≡ capped_weight (spec.optional_weight scope.entry.locals.now scope.entry.globals.now e.now) }
 {
     match e {
         None => 0,
@@ -71,7 +72,7 @@ pub(crate) fn optional_weight(scope: Scope, e: &Option<Expr>) -> u64
 
 /// The weight of a list of expressions.
 pub(crate) fn list_weight(scope: Scope, list: &[Expr]) -> u64
-    ensures { result ≡ capped (spec.list_weight scope.entry.locals.now scope.entry.globals.now list.now) }
+    ensures { result ≡ capped_weight (spec.list_weight scope.entry.locals.now scope.entry.globals.now list.now) }
 {
     let mut sum: u64 = 0;
     for e in list {

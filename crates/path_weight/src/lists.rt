@@ -2,9 +2,9 @@
 
 ghost use Rattle.std.specs.Prelude.{◌≡◌, ◌<◌, ◌*◌, All, length, slice_get};
 ghost use Rattle.flow_laws.specs.Graphs.{graph, edges};
-ghost use Rattle.flow_laws.specs.Paths.{count};
+ghost use Rattle.flow_laws.specs.Paths.{edge_count};
 ghost use Rattle.cond_laws.specs.Weights as spec;
-ghost use Rattle.path_weight.specs.Capped.{capped};
+ghost use Rattle.path_weight.specs.Capped.{capped_weight};
 
 use crate::blocks::block_weight;
 use flow_graph::Plan;
@@ -27,7 +27,7 @@ pub fn weight(plan: &Plan, list: &[u16]) -> u64
 
 // How often a list has an edge.
 fn times(list: &[u16], e: u16) -> u64
-    ensures { result ≡ count list.now e }
+    ensures { result ≡ edge_count list.now e }
 {
     let mut times = 0;
     for other in list {
@@ -41,7 +41,7 @@ fn times(list: &[u16], e: u16) -> u64
 // The weight of an edge so many times.
 fn weight_of_all(plan: &Plan, e: u16, times: u64) -> u64
     requires { e < length (edges (graph plan.now.program)) }
-    ensures { result ≡ capped
+    ensures { result ≡ capped_weight
         (spec.edge_weight plan.now.program (slice_get (edges (graph plan.now.program)) e) * times) }
 {
     if times == 0 {
@@ -53,7 +53,8 @@ fn weight_of_all(plan: &Plan, e: u16, times: u64) -> u64
 
 fn edge_weight(plan: &Plan, e: u16) -> u64
     requires { e < length (edges (graph plan.now.program)) }
-    ensures { result ≡ capped (spec.edge_weight plan.now.program (slice_get (edges (graph plan.now.program)) e)) }
+    ensures { result ≡ capped_weight (spec.edge_weight plan.now.program (slice_get (edges (graph plan.now.program)) e))
+        }
 {
     let program = plan.program();
     let from = plan.edge(e).from;

@@ -49,7 +49,8 @@ FromZero [] = Unit {0}
 FromZero (limit ∷ limits) = (limit.0 ≡ 0) × FromZero limits
 
 -- the rows and the costs of the program, a box from 0 on, and the multipliers of its part
-pub record IsPeakDual (p : Program) (t : Costs) (rows : Rows) (objective : Objective) (within : CountBox) (by : Multipliers) : Type 0 where
+pub record IsPeakDual (p : Program) (t : Costs) (rows : Rows) (objective : Objective) (within : CountBox)
+    (by : Multipliers) : Type 0 where
   pub rows_are : rows.rows ≡ flow_rows (graph p)
   pub costs_are : objective.costs ≡ costs_of_edges t (graph p) (edges (graph p))
   pub limits : FromZero within.limits

@@ -1,8 +1,43 @@
 -- How often each edge of a part is taken, where it is gone through by its dearest ways so often as is asked for each of
 -- the four. Loops are multiplied out: no walk is followed. This project's own.
-use Rattle.std.specs.Prelude.{◌≡◌, ℕ, ◌+◌, ◌*◌, nat_le, Bool, true, false, if◌then◌else◌, List, [], ◌∷◌, ◌++◌, Option, Some, None}
+use Rattle.std.specs.Prelude.{
+  ◌≡◌,
+  ℕ,
+  ◌+◌,
+  ◌*◌,
+  nat_le,
+  Bool,
+  true,
+  false,
+  if◌then◌else◌,
+  List,
+  [],
+  ◌∷◌,
+  ◌++◌,
+  Option,
+  Some,
+  None,
+}
 use Rattle.flow_laws.specs.Sites.{Targets}
-use Rattle.peak_laws.specs.Parts.{Part, Nothing, Block, Then, Choice, While, Do, Body, greater, more, both, Ways, dearest_ways, back, turn, ahead, step_costs}
+use Rattle.peak_laws.specs.Parts.{
+  Part,
+  Nothing,
+  Block,
+  Then,
+  Choice,
+  While,
+  Do,
+  Body,
+  greater,
+  more,
+  sum_of_both,
+  Ways,
+  dearest_ways,
+  way_back,
+  full_turn_cost,
+  ahead,
+  step_costs,
+}
 
 -- ---- choosing
 
@@ -28,17 +63,17 @@ whole a = a.next + (a.breaks + (a.continues + a.returns))
 abbrev pub then_second : Ways → Ways → Targets → Targets
 then_second v w a = record {
   next = a.next;
-  breaks = by_second v.breaks (both v.next w.breaks) a.breaks;
-  continues = by_second v.continues (both v.next w.continues) a.continues;
-  returns = by_second v.returns (both v.next w.returns) a.returns;
+  breaks = by_second v.breaks (sum_of_both v.next w.breaks) a.breaks;
+  continues = by_second v.continues (sum_of_both v.next w.continues) a.continues;
+  returns = by_second v.returns (sum_of_both v.next w.returns) a.returns;
 }
 
 abbrev pub then_first : Ways → Ways → Targets → Targets
 then_first v w a = record {
   next = whole (then_second v w a);
-  breaks = by_first v.breaks (both v.next w.breaks) a.breaks;
-  continues = by_first v.continues (both v.next w.continues) a.continues;
-  returns = by_first v.returns (both v.next w.returns) a.returns;
+  breaks = by_first v.breaks (sum_of_both v.next w.breaks) a.breaks;
+  continues = by_first v.continues (sum_of_both v.next w.continues) a.continues;
+  returns = by_first v.returns (sum_of_both v.next w.returns) a.returns;
 }
 
 -- ---- a choice
@@ -74,10 +109,10 @@ abbrev pub while_breaks : ℕ → ℕ → ℕ → Ways → ℕ → ℕ
 while_breaks c m y w x = by_second (Some ((m + 1) * y + c)) (more (m * y + c) w.breaks) x
 
 abbrev pub do_stays : ℕ → ℕ → ℕ → Ways → ℕ → ℕ
-do_stays c m y w x = by_first (more (m * y + c) (back w)) (more (m * y) w.breaks) x
+do_stays c m y w x = by_first (more (m * y + c) (way_back w)) (more (m * y) w.breaks) x
 
 abbrev pub do_breaks : ℕ → ℕ → ℕ → Ways → ℕ → ℕ
-do_breaks c m y w x = by_second (more (m * y + c) (back w)) (more (m * y) w.breaks) x
+do_breaks c m y w x = by_second (more (m * y + c) (way_back w)) (more (m * y) w.breaks) x
 
 -- a body that leads back so often, and is left for good so often
 abbrev pub loop_body_amounts : Ways → ℕ → ℕ → ℕ → Targets
@@ -90,10 +125,10 @@ loop_body_amounts w full out r = record {
 
 -- full turns: all of them where the condition ends the loop, else all but one
 abbrev pub while_full : ℕ → Ways → ℕ → ℕ → ℕ
-while_full m w stays out = amount_by_way (back w) ((m + 1) * stays + m * out)
+while_full m w stays out = amount_by_way (way_back w) ((m + 1) * stays + m * out)
 
 abbrev pub do_full : ℕ → Ways → ℕ → ℕ
-do_full m w x = amount_by_way (back w) (m * x)
+do_full m w x = amount_by_way (way_back w) (m * x)
 
 -- ---- a callee's body
 
@@ -102,7 +137,13 @@ abbrev pub body_amounts : Ways → ℕ → Targets
 body_amounts w x =
     let near = by_first (greater w.next w.breaks) (greater w.continues w.returns) x in
     let far = by_second (greater w.next w.breaks) (greater w.continues w.returns) x in
-    record { next = by_first w.next w.breaks near; breaks = by_second w.next w.breaks near; continues = by_first w.continues w.returns far; returns = by_second w.continues w.returns far }
+    record {
+      next = by_first w.next w.breaks near;
+      breaks = by_second w.next w.breaks near;
+      continues = by_first
+          w.continues w.returns far;
+      returns = by_second w.continues w.returns far;
+    }
 
 abbrev pub step_flows : Option ℕ → ℕ → List ℕ
 step_flows None x = []
@@ -112,19 +153,21 @@ step_flows (Some s) x = x ∷ []
 abbrev pub flows : Part → Targets → List ℕ
 flows Nothing a = []
 flows (Block c l) a = ahead a l ∷ []
-flows (Then p q) a = flows p (then_first (dearest_ways p) (dearest_ways q) a) ++ flows q (then_second (dearest_ways p) (dearest_ways q) a)
+flows (Then p q) a = flows p (then_first (dearest_ways p) (dearest_ways q) a)
+    ++ flows q (then_second (dearest_ways p) (dearest_ways q) a)
 flows (Choice c p q) a =
     let first = choice_first (dearest_ways p) (dearest_ways q) a in
     let second = choice_second (dearest_ways p) (dearest_ways q) a in
     whole first ∷ (whole second ∷ (flows p first ++ flows q second))
 flows (While c m s p) a =
-    let y = turn c s (dearest_ways p) in
+    let y = full_turn_cost c s (dearest_ways p) in
     let stays = while_stays c m y (dearest_ways p) a.next in
     let breaks = while_breaks c m y (dearest_ways p) a.next in
     let full = while_full m (dearest_ways p) stays (breaks + a.returns) in
-    (full + (breaks + a.returns)) ∷ (stays ∷ (step_flows s full ++ flows p (loop_body_amounts (dearest_ways p) full breaks a.returns)))
+    (full + (breaks + a.returns))
+    ∷ (stays ∷ (step_flows s full ++ flows p (loop_body_amounts (dearest_ways p) full breaks a.returns)))
 flows (Do c m p) a =
-    let y = turn c None (dearest_ways p) in
+    let y = full_turn_cost c None (dearest_ways p) in
     let stays = do_stays c m y (dearest_ways p) a.next in
     let breaks = do_breaks c m y (dearest_ways p) a.next in
     let full = do_full m (dearest_ways p) (stays + (breaks + a.returns)) in
@@ -154,10 +197,11 @@ pub record Feasible (w : Ways) (a : Targets) : Type 0 where
   pub returns : Leads w.returns a.returns
 
 -- what x times a way costs
-abbrev pub times : Option ℕ → ℕ → ℕ
-times None x = 0
-times (Some d) x = d * x
+abbrev pub cost_times : Option ℕ → ℕ → ℕ
+cost_times None x = 0
+cost_times (Some d) x = d * x
 
 -- what all that is asked for costs
 abbrev pub value : Ways → Targets → ℕ
-value w a = times w.next a.next + (times w.breaks a.breaks + (times w.continues a.continues + times w.returns a.returns))
+value w a = cost_times w.next a.next + (cost_times w.breaks a.breaks + (cost_times w.continues a.continues
+    + cost_times w.returns a.returns))

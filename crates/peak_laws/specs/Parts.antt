@@ -1,6 +1,26 @@
 -- Parts of a flat graph as trees, calls inlined, and their dearest ways. A part is entered at its first node, and is
 -- left in four ways, as a list of statements is: by its end, `break`, `continue` and `return`. This project's own.
-use Rattle.std.specs.Prelude.{◌≤◌, ℕ, ◌+◌, ◌-◌, ◌*◌, ◌==◌, ◌&&◌, max, Bool, true, false, if◌then◌else◌, List, [], ◌∷◌, ◌++◌, Option, Some, None}
+use Rattle.std.specs.Prelude.{
+  ◌≤◌,
+  ℕ,
+  ◌+◌,
+  ◌-◌,
+  ◌*◌,
+  ◌==◌,
+  ◌&&◌,
+  max,
+  Bool,
+  true,
+  false,
+  if◌then◌else◌,
+  List,
+  [],
+  ◌∷◌,
+  ◌++◌,
+  Option,
+  Some,
+  None,
+}
 use Rattle.flow_laws.specs.declared.graph.Way.{Way}
 use Rattle.flow_laws.specs.declared.graph.Way.TheVariants.{Next, True, False}
 use Rattle.flow_laws.specs.declared.graph.Edge.{Edge}
@@ -36,9 +56,9 @@ more d None = None
 more d (Some e) = Some (d + e)
 
 -- their sum, where both are there
-abbrev pub both : Option ℕ → Option ℕ → Option ℕ
-both None o = None
-both (Some d) o = more d o
+abbrev pub sum_of_both : Option ℕ → Option ℕ → Option ℕ
+sum_of_both None o = None
+sum_of_both (Some d) o = more d o
 
 -- ---- dearest ways
 
@@ -54,10 +74,10 @@ block_ways c ByReturn = record { next = None; breaks = None; continues = None; r
 
 abbrev pub then_ways : Ways → Ways → Ways
 then_ways a b = record {
-  next = both a.next b.next;
-  breaks = greater a.breaks (both a.next b.breaks);
-  continues = greater a.continues (both a.next b.continues);
-  returns = greater a.returns (both a.next b.returns);
+  next = sum_of_both a.next b.next;
+  breaks = greater a.breaks (sum_of_both a.next b.breaks);
+  continues = greater a.continues (sum_of_both a.next b.continues);
+  returns = greater a.returns (sum_of_both a.next b.returns);
 }
 
 abbrev pub choice_ways : ℕ → Ways → Ways → Ways
@@ -73,16 +93,16 @@ step_cost None = 0
 step_cost (Some s) = s
 
 -- the way through a loop's body that leads back to its condition
-abbrev pub back : Ways → Option ℕ
-back a = greater a.next a.continues
+abbrev pub way_back : Ways → Option ℕ
+way_back a = greater a.next a.continues
 
 -- what a dearest full turn costs, or 0 where no full turn exists: c is the cost of the condition and the step
 abbrev pub turn_cost : ℕ → Option ℕ → ℕ
 turn_cost c None = 0
 turn_cost c (Some d) = c + d
 
-abbrev pub turn : ℕ → Option ℕ → Ways → ℕ
-turn c s a = turn_cost (c + step_cost s) (back a)
+abbrev pub full_turn_cost : ℕ → Option ℕ → Ways → ℕ
+full_turn_cost c s a = turn_cost (c + step_cost s) (way_back a)
 
 -- where each turn costs y: all turns and out by the condition, or all but one and out of the body
 abbrev pub while_ways : ℕ → ℕ → ℕ → Ways → Ways
@@ -96,7 +116,7 @@ while_ways c m y a = record {
 -- the same, where the body comes first and may be entered once less by the condition
 abbrev pub do_ways : ℕ → ℕ → ℕ → Ways → Ways
 do_ways c m y a = record {
-  next = greater (more (m * y + c) (back a)) (more (m * y) a.breaks);
+  next = greater (more (m * y + c) (way_back a)) (more (m * y) a.breaks);
   breaks = None;
   continues = None;
   returns = more (m * y) a.returns;
@@ -112,8 +132,8 @@ dearest_ways Nothing = only_next (Some 0)
 dearest_ways (Block c l) = block_ways c l
 dearest_ways (Then a b) = then_ways (dearest_ways a) (dearest_ways b)
 dearest_ways (Choice c a b) = choice_ways c (dearest_ways a) (dearest_ways b)
-dearest_ways (While c m s a) = while_ways c m (turn c s (dearest_ways a)) (dearest_ways a)
-dearest_ways (Do c m a) = do_ways c m (turn c None (dearest_ways a)) (dearest_ways a)
+dearest_ways (While c m s a) = while_ways c m (full_turn_cost c s (dearest_ways a)) (dearest_ways a)
+dearest_ways (Do c m a) = do_ways c m (full_turn_cost c None (dearest_ways a)) (dearest_ways a)
 dearest_ways (Body a) = body_ways (dearest_ways a)
 
 -- ---- dearest costs to the end
@@ -131,7 +151,8 @@ from_condition c y w next = c + max next (w - y)
 
 -- the same, for a body that costs `entry` from its first node on
 abbrev pub at_condition : ℕ → Option ℕ → Ways → (Targets → ℕ) → Targets → ℕ
-at_condition c s a entry t = from_condition c (turn c s a) (entry (body_of t (step_cost s + (c + t.next)))) t.next
+at_condition c s a entry t = from_condition c (full_turn_cost c s a) (entry (body_of t (step_cost s + (c + t.next))))
+    t.next
 
 -- what a part costs at most from its first node on, where what is ahead costs t; an entry of a loop pays all its turns
 -- ahead, and each turn is taken off
@@ -140,8 +161,10 @@ from_entry Nothing t = t.next
 from_entry (Block c l) t = c + ahead t l
 from_entry (Then a b) t = from_entry a (with_next t (from_entry b t))
 from_entry (Choice c a b) t = c + max (from_entry a t) (from_entry b t)
-from_entry (While c m s a) t = (m + 1) * turn c s (dearest_ways a) + at_condition c s (dearest_ways a) (from_entry a) t
-from_entry (Do c m a) t = m * turn c None (dearest_ways a) + from_entry a (body_of t (at_condition c None (dearest_ways a) (from_entry a) t))
+from_entry (While c m s a) t = (m + 1) * full_turn_cost c s (dearest_ways a) + at_condition c s (dearest_ways a)
+    (from_entry a) t
+from_entry (Do c m a) t = m * full_turn_cost c None (dearest_ways a)
+    + from_entry a (body_of t (at_condition c None (dearest_ways a) (from_entry a) t))
 from_entry (Body a) t = from_entry a (all_to t.next)
 
 -- ---- nodes, by their numbers
@@ -151,14 +174,14 @@ step_size None = 0
 step_size (Some s) = 1
 
 -- how many nodes
-abbrev pub size : Part → ℕ
-size Nothing = 0
-size (Block c l) = 1
-size (Then a b) = size a + size b
-size (Choice c a b) = 1 + (size a + size b)
-size (While c m s a) = 1 + (step_size s + size a)
-size (Do c m a) = size a + 1
-size (Body a) = size a
+abbrev pub part_size : Part → ℕ
+part_size Nothing = 0
+part_size (Block c l) = 1
+part_size (Then a b) = part_size a + part_size b
+part_size (Choice c a b) = 1 + (part_size a + part_size b)
+part_size (While c m s a) = 1 + (step_size s + part_size a)
+part_size (Do c m a) = part_size a + 1
+part_size (Body a) = part_size a
 
 abbrev pub step_costs : Option ℕ → List ℕ
 step_costs None = []
@@ -203,14 +226,19 @@ abbrev pub part_edges : Part → ℕ → Targets → List Edge
 part_edges Nothing n k = []
 part_edges (Block c l) n k = leaves n Next (ahead k l) ∷ []
 part_edges (Then a b) n k =
-    part_edges a n (with_next k (head (size b) (n + size a) k.next)) ++ part_edges b (n + size a) k
+    part_edges a n (with_next k (head (part_size b) (n + part_size a) k.next)) ++ part_edges b (n + part_size a) k
 part_edges (Choice c a b) n k =
-    leaves n True (head (size a) (n + 1) k.next) ∷ (leaves n False (head (size b) (n + 1 + size a) k.next) ∷ (part_edges a (n + 1) k ++ part_edges b (n + 1 + size a) k))
+    leaves n True (head (part_size a) (n + 1) k.next)
+    ∷ (leaves n False (head (part_size b) (n + 1 + part_size a) k.next)
+    ∷ (part_edges a (n + 1) k ++ part_edges b (n + 1 + part_size a) k))
 part_edges (While c m s a) n k =
     let again = head (step_size s) (n + 1) n in
-    leaves n True (head (size a) (n + 1 + step_size s) again) ∷ (leaves n False k.next ∷ (step_edges s n ++ part_edges a (n + 1 + step_size s) (body_of k again)))
+    leaves n True (head (part_size a) (n + 1 + step_size s) again)
+    ∷ (leaves n False k.next ∷ (step_edges s n ++ part_edges a (n + 1 + step_size s) (body_of k again)))
 part_edges (Do c m a) n k =
-    part_edges a n (body_of k (n + size a)) ++ (leaves (n + size a) True (head (size a) n (n + size a)) ∷ (leaves (n + size a) False k.next ∷ []))
+    part_edges a n (body_of k (n + part_size a))
+    ++ (leaves (n + part_size a) True (head (part_size a) n (n + part_size a))
+    ∷ (leaves (n + part_size a) False k.next ∷ []))
 part_edges (Body a) n k = part_edges a n (all_to k.next)
 
 -- a loop and what each turn of it costs
@@ -222,19 +250,21 @@ abbrev pub costed_loop : LoopCopy → ℕ → CostedLoop
 costed_loop l y = record { loop_copy = l; turn = y }
 
 abbrev pub while_copy : Part → ℕ → ℕ → Option ℕ → LoopCopy
-while_copy a n m s = loop_at n (n + 1 + step_size s + size a) n (m + 1) false
+while_copy a n m s = loop_at n (n + 1 + step_size s + part_size a) n (m + 1) false
 
 abbrev pub do_copy : Part → ℕ → ℕ → LoopCopy
-do_copy a n m = loop_at n (n + size a + 1) (n + size a) (m + 1) true
+do_copy a n m = loop_at n (n + part_size a + 1) (n + part_size a) (m + 1) true
 
 -- the loops of a part, by their conditions' nodes
 abbrev pub costed_loops : Part → ℕ → List CostedLoop
 costed_loops Nothing n = []
 costed_loops (Block c l) n = []
-costed_loops (Then a b) n = costed_loops a n ++ costed_loops b (n + size a)
-costed_loops (Choice c a b) n = costed_loops a (n + 1) ++ costed_loops b (n + 1 + size a)
-costed_loops (While c m s a) n = costed_loop (while_copy a n m s) (turn c s (dearest_ways a)) ∷ costed_loops a (n + 1 + step_size s)
-costed_loops (Do c m a) n = costed_loops a n ++ (costed_loop (do_copy a n m) (turn c None (dearest_ways a)) ∷ [])
+costed_loops (Then a b) n = costed_loops a n ++ costed_loops b (n + part_size a)
+costed_loops (Choice c a b) n = costed_loops a (n + 1) ++ costed_loops b (n + 1 + part_size a)
+costed_loops (While c m s a) n = costed_loop (while_copy a n m s) (full_turn_cost c s (dearest_ways a))
+    ∷ costed_loops a (n + 1 + step_size s)
+costed_loops (Do c m a) n = costed_loops a n ++ (costed_loop (do_copy a n m) (full_turn_cost c None (dearest_ways a))
+    ∷ [])
 costed_loops (Body a) n = costed_loops a n
 
 -- how often the condition of a loop may hold after each entry

@@ -1,15 +1,60 @@
 -- The part of the flat graph that a program is, calls inlined: a tree of its nodes with their costs. This project's
 -- own.
-use Rattle.std.specs.Prelude.{ℕ, ◌+◌, ◌-◌, Bool, true, false, if◌then◌else◌, List, [], ◌∷◌, ◌++◌, length, Option, Some, None, slice_get, unwrap_or}
+use Rattle.std.specs.Prelude.{
+  ℕ,
+  ◌+◌,
+  ◌-◌,
+  Bool,
+  true,
+  false,
+  if◌then◌else◌,
+  List,
+  [],
+  ◌∷◌,
+  ◌++◌,
+  length,
+  Option,
+  Some,
+  None,
+  slice_get,
+  unwrap_or,
+}
 use Rattle.c_tree.specs.declared.tree.Stmt.{Stmt, Row_of-Stmt, end_of-Stmt, more_of-Stmt, Held-Stmt-For-1, None', Some'}
-use Rattle.c_tree.specs.declared.tree.Stmt.TheVariants.{Empty, Scalar, Array, Assign, Call, Break, Continue, Return, If', While', Do', For', Group'}
+use Rattle.c_tree.specs.declared.tree.Stmt.TheVariants.{
+  Empty,
+  Scalar,
+  Array,
+  Assign,
+  Call,
+  Break,
+  Continue,
+  Return,
+  If',
+  While',
+  Do',
+  For',
+  Group',
+}
 use Rattle.c_tree.specs.declared.program.Costs.{Costs}
 use Rattle.c_tree.specs.declared.program.Func.{Func}
 use Rattle.c_tree.specs.declared.program.Program.{Program}
-use Rattle.c_tree.specs.Blocks.{is_simple, blocks, row_blocks, held_blocks}
-use Rattle.c_tree.specs.Claims.{block_cost}
-use Rattle.c_tree.specs.Statements.{block}
-use Rattle.peak_laws.specs.Parts.{ByEnd, ByBreak, ByContinue, ByReturn, Part, Nothing, Block, Then, Choice, While, Do, Body}
+use Rattle.c_tree.specs.Meaning.Blocks.{is_simple, blocks, row_blocks, held_blocks}
+use Rattle.c_tree.specs.Meaning.Claims.{block_cost}
+use Rattle.c_tree.specs.Meaning.Statements.{block}
+use Rattle.peak_laws.specs.Parts.{
+  ByEnd,
+  ByBreak,
+  ByContinue,
+  ByReturn,
+  Part,
+  Nothing,
+  Block,
+  Then,
+  Choice,
+  While,
+  Do,
+  Body,
+}
 
 -- the part has no node
 abbrev pub is_nothing : Part → Bool
@@ -57,19 +102,23 @@ unfoldable mutual
   part qs cost Break b = Block (cost b) ByBreak
   part qs cost Continue b = Block (cost b) ByContinue
   part qs cost (Return e) b = Block (cost b) ByReturn
-  part qs cost (If' e a x c y) b = Choice (cost b) (row_part qs cost x (b + 1) false) (row_part qs cost y (b + 1 + row_blocks x false) false)
+  part qs cost (If' e a x c y) b = Choice (cost b) (row_part qs cost x (b + 1) false)
+      (row_part qs cost y (b + 1 + row_blocks x false) false)
   part qs cost (While' l e a x) b = While (cost b) (l - 1) None (row_part qs cost x (b + 1) false)
   part qs cost (Do' l a x e) b = Do (cost (b + row_blocks x false)) (l - 1) (row_part qs cost x b false)
   part qs cost (For' l i e j a x) b =
       let bc = b + held_blocks i in
-      sequence (held_part qs cost i b) (While (cost bc) (l - 1) (held_step j (cost (bc + 1))) (row_part qs cost x (bc + 1 + held_blocks j) false))
+      sequence (held_part qs cost i b) (While (cost bc) (l - 1) (held_step j (cost (bc + 1)))
+      (row_part qs cost x (bc + 1 + held_blocks j) false))
   part qs cost (Group' a x) b = row_part qs cost x b false
 
   -- a list, where `run` tells that the block b of simple statements is begun
   pub row_part : {m : _} → List Part → (ℕ → ℕ) → Row_of-Stmt m → ℕ → Bool → Part
   row_part qs cost end_of-Stmt b run = pending_block run (cost b)
   row_part qs cost (more_of-Stmt s rest) b run =
-      if is_simple s then row_part qs cost rest b true else sequence (pending_block run (cost b)) (sequence (part qs cost s (block_past_run run b)) (row_part qs cost rest (block_past_run run b + blocks s false) false))
+      if is_simple s then row_part qs cost rest b true else sequence (pending_block run (cost b))
+      (sequence (part qs cost s (block_past_run run b)) (row_part qs cost rest (block_past_run run b
+      + blocks s false) false))
 
   -- the initialiser of a `for`
   pub held_part : List Part → (ℕ → ℕ) → Held-Stmt-For-1 → ℕ → Part
@@ -80,7 +129,9 @@ unfoldable mutual
 abbrev pub list_part : List Part → (ℕ → ℕ) → List Stmt → ℕ → Bool → Part
 list_part qs cost [] b run = pending_block run (cost b)
 list_part qs cost (s ∷ rest) b run =
-    if is_simple s then list_part qs cost rest b true else sequence (pending_block run (cost b)) (sequence (part qs cost s (block_past_run run b)) (list_part qs cost rest (block_past_run run b + blocks s false) false))
+    if is_simple s then list_part qs cost rest b true else sequence (pending_block run (cost b))
+    (sequence (part qs cost s (block_past_run run b)) (list_part qs cost rest (block_past_run run b
+    + blocks s false) false))
 
 -- the costs of the blocks of the function number f
 abbrev pub costs_in : Costs → ℕ → ℕ → ℕ
@@ -91,13 +142,13 @@ abbrev pub func_part : Costs → ℕ → Func → List Part → Part
 func_part t f func qs = list_part qs (costs_in t f) func.body 0 false
 
 -- each function, over those above it
-abbrev pub parts : Costs → List Part → List Func → List Part
-parts t qs [] = qs
-parts t qs (f ∷ fs) = parts t (qs ++ func_part t (length qs) f qs ∷ []) fs
+abbrev pub function_parts : Costs → List Part → List Func → List Part
+function_parts t qs [] = qs
+function_parts t qs (f ∷ fs) = function_parts t (qs ++ func_part t (length qs) f qs ∷ []) fs
 
 -- the entry function's body
 unfoldable pub entry_part : Program → Costs → Part
-entry_part p t = unwrap_or (slice_get (parts t [] p.funcs) p.entry) Nothing
+entry_part p t = unwrap_or (slice_get (function_parts t [] p.funcs) p.entry) Nothing
 
 -- a program's part: the entry function's body, whose `return` leads to its end
 abbrev pub program_part : Program → Costs → Part

@@ -1,19 +1,27 @@
 //! The optimum by recursion over a program's part, as the contracts of functions that do nothing.
 
 ghost use Rattle.std.specs.Prelude.{ℕ, ◌≡◌, ◌≤◌, ◌^◌, ◌∷◌, [], pos, None};
-ghost use Rattle.c_tree.specs.Worked.{ones, two_thresholds, two_thresholds_costs, counted_while, counted_do, triangular_loops, triangular_loops_costs};
+ghost use Rattle.c_tree.specs.Meaning.Worked.{
+  ones,
+  two_thresholds,
+  two_thresholds_costs,
+  counted_while,
+  counted_do,
+  triangular_loops,
+  triangular_loops_costs,
+};
 ghost use Rattle.flow_graph.specs.Worked.{nested_counts};
 ghost use Rattle.ipet_rows.specs.Worked.{once_do};
 ghost use Rattle.c_tree.specs.declared.program.Program.{Program};
 ghost use Rattle.c_tree.specs.declared.program.Costs.{Costs};
-ghost use Rattle.c_tree.specs.Claims.{Above};
-ghost use Rattle.c_tree.specs.WellFormed.{WellFormed};
+ghost use Rattle.c_tree.specs.Meaning.Claims.{Above};
+ghost use Rattle.c_tree.specs.Keeping.WellFormed.{WellFormed};
 ghost use Rattle.flow_laws.specs.Graphs.{graph};
 ghost use Rattle.lin_rows.specs.declared.count_box.CountBox.{CountBox};
 ghost use Rattle.lin_rows.specs.declared.multipliers.Multipliers.{Multipliers};
 ghost use Rattle.lin_rows.specs.declared.objective.Objective.{Objective};
 ghost use Rattle.lin_rows.specs.declared.row.Rows.{Rows};
-ghost use Rattle.flow_graph.specs.Limits.{refusal};
+ghost use Rattle.flow_graph.specs.Limits.{size_fault};
 ghost use Rattle.flow_graph.specs.Plans.{Planned};
 ghost use Rattle.peak_laws.specs.declared.answer.Peak.{Peak};
 ghost use Rattle.peak_laws.specs.Peaks.{IsComputed, IsPeakOf};
@@ -35,7 +43,7 @@ pub fn optimum_of_part()
 
 /// No run of a fitting input of a well-formed program costs more than the optimum (Li and Malik), since the counts of
 /// its path meet the rows.
-#[tactic(auto, using(crate::proofs::Above::runs_within))]
+#[tactic(auto, using(crate::proofs::Optima::Above::runs_within))]
 pub fn optimum_is_above()
     ensures { (p : Program) (t : Costs) (n : ℕ) → WellFormed p → IpetOptimum p t n → Above p t n }
 {}
@@ -51,12 +59,16 @@ pub fn part_attains()
 /// rows, and their dual value is the optimum, over every box whose least counts are 0. Where the graph is within the
 /// limits and each block costs less than 2^32, each step of its computation stays in `i128`.
 pub fn part_bounds()
-    ensures fits { (p : Program) (t : Costs) (rows : Rows) (objective : Objective) (within : CountBox) (by : Multipliers)
+    ensures fits { (p : Program) (t : Costs) (rows : Rows) (objective : Objective) (within : CountBox)
+        (by : Multipliers)
         → WellFormed p → IsPeakDual p t rows objective within by → FitsRows rows by }
-    ensures value { (p : Program) (t : Costs) (rows : Rows) (objective : Objective) (within : CountBox) (by : Multipliers)
-        → WellFormed p → IsPeakDual p t rows objective within by → dual rows objective within by ≡ pos (peak_value (program_part p t)) }
-    ensures room { (p : Program) (t : Costs) (rows : Rows) (objective : Objective) (within : CountBox) (by : Multipliers)
-        → WellFormed p → AreSmall t → refusal (graph p) ≡ None → IsPeakDual p t rows objective within by
+    ensures value { (p : Program) (t : Costs) (rows : Rows) (objective : Objective) (within : CountBox)
+        (by : Multipliers)
+        → WellFormed p → IsPeakDual p t rows objective within by → dual rows objective within by
+        ≡ pos (peak_value (program_part p t)) }
+    ensures room { (p : Program) (t : Costs) (rows : Rows) (objective : Objective) (within : CountBox)
+        (by : Multipliers)
+        → WellFormed p → AreSmall t → size_fault (graph p) ≡ None → IsPeakDual p t rows objective within by
         → StaysInI128 (dual_steps rows objective within by) }
 {}
 
@@ -64,7 +76,7 @@ pub fn part_bounds()
 /// of the program's part. The costs of a plan are numbers of 32 bits, so the condition on them always holds there.
 pub fn computed_is_peak()
     ensures { (plan : Planned) (peak : Peak) → WellFormed plan.program
-        → AreSmall plan.costs → refusal (graph plan.program) ≡ None
+        → AreSmall plan.costs → size_fault (graph plan.program) ≡ None
         → IsComputed plan peak → IsPeakOf plan peak }
 {}
 
@@ -72,7 +84,8 @@ pub fn computed_is_peak()
 /// turns.
 pub fn worked_peaks()
     ensures two_choices { peak_value (program_part two_thresholds two_thresholds_costs) ≡ 94 }
-    ensures two_choices_counts { peak_counts (program_part two_thresholds two_thresholds_costs) ≡ 1 ∷ 1 ∷ 1 ∷ 0 ∷ 1 ∷ 1 ∷ 0 ∷ 1 ∷ 1 ∷ [] }
+    ensures two_choices_counts { peak_counts (program_part two_thresholds two_thresholds_costs) ≡ 1 ∷ 1 ∷ 1 ∷ 0 ∷ 1 ∷ 1
+        ∷ 0 ∷ 1 ∷ 1 ∷ [] }
     ensures whiles { peak_value (program_part counted_while ones) ≡ 23 }
     ensures while_counts { peak_counts (program_part counted_while ones) ≡ 1 ∷ 1 ∷ 10 ∷ 1 ∷ 10 ∷ 1 ∷ [] }
     ensures dos { peak_value (program_part counted_do ones) ≡ 8 }

@@ -35,7 +35,7 @@ pub fn more(c: u128, o: Option<u128>) -> Option<u128>
 pub fn both(o: Option<u128>, p: Option<u128>) -> Option<u128>
     requires o { WayIsAtMost o (2 ^ 126) }
     requires p { WayIsAtMost p (2 ^ 126) }
-    ensures { result ≡ spec.both o p }
+    ensures { result ≡ spec.sum_of_both o p }
 {
     match o {
         None => None,
@@ -90,7 +90,7 @@ pub fn then_ways(a: Ways, b: Ways) -> Ways
 }
 
 /// Of a condition of the cost `c`, with two parts.
-#[tactic(auto, using(peak_laws::proofs::Magnitudes::most_greater))]
+#[tactic(auto, using(peak_laws::proofs::Duals::Magnitudes::most_greater))]
 pub fn choice_ways(c: u128, a: Ways, b: Ways) -> Ways
     requires c { c ≤ 2 ^ 126 }
     requires a { WaysAreAtMost a (2 ^ 126) }
@@ -107,17 +107,17 @@ pub fn choice_ways(c: u128, a: Ways, b: Ways) -> Ways
 
 /// The way through a loop's body that leads back to its condition.
 pub fn back(a: Ways) -> Option<u128>
-    ensures { result ≡ spec.back a }
+    ensures { result ≡ spec.way_back a }
 {
     greater(a.next, a.continues)
 }
 
 /// What a dearest full turn costs, or 0 where no full turn exists: `c` is the cost of the condition and the step.
-#[tactic(auto, using(peak_laws::proofs::Magnitudes::most_greater))]
+#[tactic(auto, using(peak_laws::proofs::Duals::Magnitudes::most_greater))]
 pub fn turn_cost(c: u128, a: Ways) -> u128
     requires c { c ≤ 2 ^ 126 }
     requires a { WaysAreAtMost a (2 ^ 126) }
-    ensures { result ≡ spec.turn_cost c (spec.back a) }
+    ensures { result ≡ spec.turn_cost c (spec.way_back a) }
 {
     match more(c, back(a)) {
         None => 0,
@@ -129,7 +129,7 @@ pub fn turn_cost(c: u128, a: Ways) -> u128
 pub fn turn_multiplier(c: u128, a: Ways) -> i128
     requires c { c ≤ 2 ^ 125 }
     requires a { WaysAreAtMost a (2 ^ 126) }
-    ensures { result ≡ pos (spec.turn_cost c (spec.back a)) }
+    ensures { result ≡ pos (spec.turn_cost c (spec.way_back a)) }
 {
     turn_cost(c, a) as i128
 }
@@ -151,7 +151,7 @@ pub fn while_ways(c: u128, m: u128, y: u128, a: Ways) -> Ways
 }
 
 /// Of `do`.
-#[tactic(auto, using(peak_laws::proofs::Magnitudes::most_greater))]
+#[tactic(auto, using(peak_laws::proofs::Duals::Magnitudes::most_greater))]
 pub fn do_ways(c: u128, m: u128, y: u128, a: Ways) -> Ways
     requires room { m * y + c ≤ 2 ^ 126 }
     requires a { WaysAreAtMost a (2 ^ 126) }

@@ -2,8 +2,8 @@
 use Rattle.std.specs.Prelude.{ℕ, List}
 use Rattle.c_tree.specs.declared.unit.Unit.{Unit as Tree}
 use Rattle.c_tree.specs.declared.program.Program.{Program}
-use Rattle.c_tree.specs.Checked.{IsUnitOf}
-use Rattle.c_tree.specs.Refusals.{Typed}
+use Rattle.c_tree.specs.Checking.Checked.{IsUnitOf}
+use Rattle.c_tree.specs.Checking.Refusals.{Typed}
 
 -- the text has tokens that spell a unit, of whatever height, which with this entry is typed as the program
 pub record IsReadAs (text entry : List ℕ) (p : Program) : Type 0 where

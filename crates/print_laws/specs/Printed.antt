@@ -1,12 +1,12 @@
--- The text of a printed program: one declaration or statement a line, in the order of the program, the globals first. This project's
--- own layout.
+-- The text of a printed program: one declaration or statement a line, in the order of the program, the globals first.
+-- This project's own layout.
 use Rattle.std.specs.Prelude.{ℕ, Bool, true, false, List, [], ◌∷◌, ◌++◌, take, flat_map, codes, Option, Some, None, ℤ}
 use Rattle.c_tree.specs.declared.tree.Ty.{Ty}
 use Rattle.c_tree.specs.declared.program.Local.{Local}
 use Rattle.c_tree.specs.declared.program.Global.{Global}
 use Rattle.c_tree.specs.declared.program.Func.{Func}
 use Rattle.c_tree.specs.declared.program.Program.{Program}
-use Rattle.print_laws.specs.PrintedExpressions.{type_text, value_text, joined}
+use Rattle.print_laws.specs.PrintedExpressions.{type_text, value_text, comma_list}
 use Rattle.print_laws.specs.PrintedStatements.{declared_text, list_text, stmts_text}
 
 -- ---- globals
@@ -22,7 +22,8 @@ initial_text t None (z ∷ zs) = codes " = " ++ value_text t z
 initial_text t (Some n) (z ∷ zs) = codes " = " ++ list_text (value_text t) (z ∷ zs)
 
 unfoldable pub global_text : Global → List ℕ
-global_text g = outer_text g.outer ++ declared_text g.ty g.name g.length ++ initial_text g.ty g.length g.values ++ codes ";\n"
+global_text g = outer_text g.outer ++ declared_text g.ty g.name g.length ++ initial_text g.ty g.length g.values
+    ++ codes ";\n"
 
 -- ---- functions
 
@@ -35,15 +36,16 @@ param_text l = declared_text l.ty l.name l.length
 
 unfoldable pub params_text : List Local → List ℕ
 params_text [] = codes "void"
-params_text (l ∷ ls) = joined param_text (l ∷ ls)
+params_text (l ∷ ls) = comma_list param_text (l ∷ ls)
 
 unfoldable pub head_text : Func → List ℕ
-head_text f = result_text f.result ++ codes " " ++ f.name ++ codes "(" ++ params_text (take f.params f.locals) ++ codes ") {\n"
+head_text f = result_text f.result ++ codes " " ++ f.name ++ codes "(" ++ params_text (take f.params f.locals)
+    ++ codes ") {\n"
 
 unfoldable pub func_text : Program → Func → List ℕ
 func_text p f = head_text f ++ stmts_text p f 1 f.body ++ codes "}\n"
 
 -- ---- programs
 
-unfoldable pub printed : Program → List ℕ
-printed p = flat_map global_text p.globals ++ flat_map (func_text p) p.funcs
+unfoldable pub printed_program : Program → List ℕ
+printed_program p = flat_map global_text p.globals ++ flat_map (func_text p) p.funcs

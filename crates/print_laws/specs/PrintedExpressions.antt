@@ -1,5 +1,31 @@
 -- The text of names, numbers and expressions in a printed program. This project's own layout.
-use Rattle.std.specs.Prelude.{ℕ, suc, ◌+◌, ◌-◌, ◌^◌, ◌==◌, nat_lt, Bool, true, false, if◌then◌else◌, List, [], ◌∷◌, ◌++◌, flat_map, codes, decimal, slice_get, Option, Some, None, ℤ, pos, negsuc}
+use Rattle.std.specs.Prelude.{
+  ℕ,
+  suc,
+  ◌+◌,
+  ◌-◌,
+  ◌^◌,
+  ◌==◌,
+  nat_lt,
+  Bool,
+  true,
+  false,
+  if◌then◌else◌,
+  List,
+  [],
+  ◌∷◌,
+  ◌++◌,
+  flat_map,
+  codes,
+  decimal,
+  slice_get,
+  Option,
+  Some,
+  None,
+  ℤ,
+  pos,
+  negsuc,
+}
 use Rattle.c_tree.specs.declared.tree.Ty.{Ty}
 use Rattle.c_tree.specs.declared.tree.Ty.TheVariants as ty
 use Rattle.c_tree.specs.declared.tree.UnOp.{UnOp}
@@ -14,7 +40,7 @@ use Rattle.c_tree.specs.declared.program.Local.{Local as Declared}
 use Rattle.c_tree.specs.declared.program.Global.{Global as Outside}
 use Rattle.c_tree.specs.declared.program.Func.{Func}
 use Rattle.c_tree.specs.declared.program.Program.{Program}
-use Rattle.c_tree.specs.SpelledExpressions.{level}
+use Rattle.c_tree.specs.Grammar.SpelledExpressions.{level}
 
 -- ---- names
 
@@ -77,14 +103,14 @@ value_text t (pos n) = number_text t n
 value_text t (negsuc n) = if n == 2 ^ 31 - 1 then codes "(int)2147483648u" else codes "-" ++ number_text t (suc n)
 
 -- some texts with a comma between any two
-unfoldable pub joined : {A : Type 0} → (A → List ℕ) → List A → List ℕ
-joined text [] = []
-joined text (x ∷ xs) = text x ++ flat_map (λ y. codes ", " ++ text y) xs
+unfoldable pub comma_list : {A : Type 0} → (A → List ℕ) → List A → List ℕ
+comma_list text [] = []
+comma_list text (x ∷ xs) = text x ++ flat_map (λ y. codes ", " ++ text y) xs
 
 -- ---- expressions
 
--- how tightly an expression holds together: as the levels of the grammar, but a cast more tightly than a unary operator, so that no
--- unary operator stands right before another
+-- how tightly an expression holds together: as the levels of the grammar, but a cast more tightly than a unary
+-- operator, so that no unary operator stands right before another
 abbrev pub strength : Expr → ℕ
 strength (Cond' c x a y b z) = 0
 strength (Bin' o a x b y) = level o
@@ -95,13 +121,13 @@ strength (Name v) = 13
 strength (Num t n) = 13
 
 -- in parentheses, where it takes them
-abbrev pub enclosed : Bool → List ℕ → List ℕ
-enclosed true text = codes "(" ++ text ++ codes ")"
-enclosed false text = text
+abbrev pub in_parentheses : Bool → List ℕ → List ℕ
+in_parentheses true text = codes "(" ++ text ++ codes ")"
+in_parentheses false text = text
 
 -- with a blank on each side
-abbrev pub blanked : List ℕ → List ℕ
-blanked text = codes " " ++ text ++ codes " "
+abbrev pub between_blanks : List ℕ → List ℕ
+between_blanks text = codes " " ++ text ++ codes " "
 
 unfoldable mutual
   pub expr_text : Program → Func → Expr → List ℕ
@@ -110,13 +136,15 @@ unfoldable mutual
   expr_text p f (Elem' v a i) = name_text p f v ++ codes "[" ++ row_text p f 0 i ++ codes "]"
   expr_text p f (Un' o a x) = un_text o ++ row_text p f 12 x
   expr_text p f (Cast' t a x) = codes "(" ++ type_text t ++ codes ")" ++ row_text p f 11 x
-  expr_text p f (Bin' o a x b y) = row_text p f (level o) x ++ codes " " ++ bin_text o ++ codes " " ++ row_text p f (level o + 1) y
-  expr_text p f (Cond' c x a y b z) = row_text p f 1 x ++ blanked (codes "?") ++ row_text p f 0 y ++ blanked (codes ":") ++ row_text p f 0 z
+  expr_text p f (Bin' o a x b y) = row_text p f (level o) x ++ codes " " ++ bin_text o ++ codes " "
+      ++ row_text p f (level o + 1) y
+  expr_text p f (Cond' c x a y b z) = row_text p f 1 x ++ between_blanks (codes "?") ++ row_text p f 0 y
+      ++ between_blanks (codes ":") ++ row_text p f 0 z
 
   -- an operand: in parentheses, where it holds less tightly than asked
   pub row_text : {m : _} → Program → Func → ℕ → Row_of-Expr m → List ℕ
   row_text p f n end_of-Expr = []
-  row_text p f n (more_of-Expr e rest) = enclosed (nat_lt (strength e) n) (expr_text p f e)
+  row_text p f n (more_of-Expr e rest) = in_parentheses (nat_lt (strength e) n) (expr_text p f e)
 
 unfoldable pub operand_text : Program → Func → ℕ → Expr → List ℕ
-operand_text p f n e = enclosed (nat_lt (strength e) n) (expr_text p f e)
+operand_text p f n e = in_parentheses (nat_lt (strength e) n) (expr_text p f e)

@@ -1,5 +1,21 @@
 -- The lines of statements in a printed program. This project's own layout.
-use Rattle.std.specs.Prelude.{ℕ, zero, suc, ◌+◌, List, [], ◌∷◌, ◌++◌, flat_map, codes, decimal, slice_get, Option, Some, None}
+use Rattle.std.specs.Prelude.{
+  ℕ,
+  zero,
+  suc,
+  ◌+◌,
+  List,
+  [],
+  ◌∷◌,
+  ◌++◌,
+  flat_map,
+  codes,
+  decimal,
+  slice_get,
+  Option,
+  Some,
+  None,
+}
 use Rattle.c_tree.specs.declared.tree.Ty.{Ty}
 use Rattle.c_tree.specs.declared.tree.BinOp.{BinOp}
 use Rattle.c_tree.specs.declared.tree.Expr.{Expr}
@@ -8,11 +24,25 @@ use Rattle.c_tree.specs.declared.tree.Place.TheVariants as place
 use Rattle.c_tree.specs.declared.tree.Target.{Target}
 use Rattle.c_tree.specs.declared.tree.Target.TheVariants as target
 use Rattle.c_tree.specs.declared.tree.Stmt.{Stmt, Row_of-Stmt, end_of-Stmt, more_of-Stmt, Held-Stmt-For-1, None', Some'}
-use Rattle.c_tree.specs.declared.tree.Stmt.TheVariants.{Empty, Scalar, Array, Assign, Call, Break, Continue, Return, If', While', Do', For', Group'}
+use Rattle.c_tree.specs.declared.tree.Stmt.TheVariants.{
+  Empty,
+  Scalar,
+  Array,
+  Assign,
+  Call,
+  Break,
+  Continue,
+  Return,
+  If',
+  While',
+  Do',
+  For',
+  Group',
+}
 use Rattle.c_tree.specs.declared.program.Local.{Local as Declared}
 use Rattle.c_tree.specs.declared.program.Func.{Func}
 use Rattle.c_tree.specs.declared.program.Program.{Program}
-use Rattle.print_laws.specs.PrintedExpressions.{name_text, type_text, bin_text, joined, expr_text}
+use Rattle.print_laws.specs.PrintedExpressions.{name_text, type_text, bin_text, comma_list, expr_text}
 
 -- ---- lines
 
@@ -46,7 +76,7 @@ declaration_text f n = local_text (slice_get f.locals n)
 
 -- a list of an initialiser
 unfoldable pub list_text : {A : Type 0} → (A → List ℕ) → List A → List ℕ
-list_text text xs = codes "{" ++ joined text xs ++ codes "}"
+list_text text xs = codes "{" ++ comma_list text xs ++ codes "}"
 
 -- ---- statements of one line
 
@@ -73,7 +103,7 @@ func_name (Some g) = g.name
 
 -- the name of the function g and the arguments
 unfoldable pub called_text : Program → Func → ℕ → List Expr → List ℕ
-called_text p f g es = func_name (slice_get p.funcs g) ++ codes "(" ++ joined (expr_text p f) es ++ codes ")"
+called_text p f g es = func_name (slice_get p.funcs g) ++ codes "(" ++ comma_list (expr_text p f) es ++ codes ")"
 
 unfoldable pub return_text : Program → Func → Option Expr → List ℕ
 return_text p f None = codes "return"
@@ -111,11 +141,14 @@ unfoldable mutual
   stmt_text p f k (If' e a x b y) =
       line k (codes "if (" ++ expr_text p f e ++ codes ") {") ++ row_lines p f (k + 1) x ++ else_text p f k y
   stmt_text p f k (While' n e a x) =
-      bound_text n ++ line k (codes "while (" ++ expr_text p f e ++ codes ") {") ++ row_lines p f (k + 1) x ++ line k (codes "}")
+      bound_text n ++ line k (codes "while (" ++ expr_text p f e ++ codes ") {") ++ row_lines p f (k + 1) x
+      ++ line k (codes "}")
   stmt_text p f k (Do' n a x e) =
-      bound_text n ++ line k (codes "do {") ++ row_lines p f (k + 1) x ++ line k (codes "} while (" ++ expr_text p f e ++ codes ");")
+      bound_text n ++ line k (codes "do {") ++ row_lines p f (k + 1) x ++ line k (codes "} while (" ++ expr_text p f e
+      ++ codes ");")
   stmt_text p f k (For' n i e j a x) =
-      bound_text n ++ line k (for_text (held_text p f i) (expr_text p f e) (held_text p f j)) ++ row_lines p f (k + 1) x ++ line k (codes "}")
+      bound_text n ++ line k (for_text (held_text p f i) (expr_text p f e) (held_text p f j))
+      ++ row_lines p f (k + 1) x ++ line k (codes "}")
   stmt_text p f k (Group' a x) = line k (codes "{") ++ row_lines p f (k + 1) x ++ line k (codes "}")
   stmt_text p f k s = line k (simple_text p f s ++ codes ";")
 
@@ -126,7 +159,8 @@ unfoldable mutual
   -- behind the first list of an `if`: an empty second one has no `else`
   pub else_text : {m : _} → Program → Func → ℕ → Row_of-Stmt m → List ℕ
   else_text p f k end_of-Stmt = line k (codes "}")
-  else_text p f k (more_of-Stmt s rest) = line k (codes "} else {") ++ (stmt_text p f (k + 1) s ++ row_lines p f (k + 1) rest) ++ line k (codes "}")
+  else_text p f k (more_of-Stmt s rest) = line k (codes "} else {")
+      ++ (stmt_text p f (k + 1) s ++ row_lines p f (k + 1) rest) ++ line k (codes "}")
 
   -- the initialiser or the step of a `for`
   pub held_text : Program → Func → Held-Stmt-For-1 → List ℕ

@@ -1,6 +1,31 @@
--- A tree of a text shows a program: it has the program's parts with names for its numbers, and besides places, parentheses and the lengths and
--- values of declarations as expressions.
-use Rattle.std.specs.Prelude.{◌≡◌, ℕ, suc, ◌-◌, ◌^◌, ◌==◌, Bool, true, false, if◌then◌else◌, List, [], ◌∷◌, ◌++◌, take, length, map, slice_get, Option, Some, None, ℤ, pos, negsuc}
+-- A tree of a text shows a program: it has the program's parts with names for its numbers, and besides places,
+-- parentheses and the lengths and values of declarations as expressions.
+use Rattle.std.specs.Prelude.{
+  ◌≡◌,
+  ℕ,
+  suc,
+  ◌-◌,
+  ◌^◌,
+  ◌==◌,
+  Bool,
+  true,
+  false,
+  if◌then◌else◌,
+  List,
+  [],
+  ◌∷◌,
+  ◌++◌,
+  take,
+  length,
+  map,
+  slice_get,
+  Option,
+  Some,
+  None,
+  ℤ,
+  pos,
+  negsuc,
+}
 use Rattle.c_tree.specs.declared.tree.Ty.{Ty}
 use Rattle.c_tree.specs.declared.tree.Ty.TheVariants as ty
 use Rattle.c_tree.specs.declared.tree.UnOp.{UnOp}
@@ -14,7 +39,21 @@ use Rattle.c_tree.specs.declared.tree.Place.TheVariants as place
 use Rattle.c_tree.specs.declared.tree.Target.{Target}
 use Rattle.c_tree.specs.declared.tree.Target.TheVariants as target
 use Rattle.c_tree.specs.declared.tree.Stmt.{Stmt, Row_of-Stmt, end_of-Stmt, more_of-Stmt, Held-Stmt-For-1, None', Some'}
-use Rattle.c_tree.specs.declared.tree.Stmt.TheVariants.{Empty, Scalar, Array, Assign, Call, Break, Continue, Return, If', While', Do', For', Group'}
+use Rattle.c_tree.specs.declared.tree.Stmt.TheVariants.{
+  Empty,
+  Scalar,
+  Array,
+  Assign,
+  Call,
+  Break,
+  Continue,
+  Return,
+  If',
+  While',
+  Do',
+  For',
+  Group',
+}
 use Rattle.c_tree.specs.declared.program.Local.{Local as Declared}
 use Rattle.c_tree.specs.declared.program.Global.{Global as Outside}
 use Rattle.c_tree.specs.declared.program.Func.{Func}
@@ -36,7 +75,7 @@ use Rattle.c_tree.specs.declared.unit.RawFunc.{RawFunc}
 use Rattle.c_tree.specs.declared.unit.RawTop.{RawTop}
 use Rattle.c_tree.specs.declared.unit.RawTop.TheVariants as top
 use Rattle.c_tree.specs.declared.unit.Unit.{Unit as Tree}
-use Rattle.c_tree.specs.Naming.{local_of}
+use Rattle.c_tree.specs.Checking.Naming.{local_of}
 use Rattle.print_laws.specs.PrintedExpressions.{name_text}
 
 -- ---- expressions
@@ -45,17 +84,21 @@ use Rattle.print_laws.specs.PrintedExpressions.{name_text}
 pub data Shows (p : Program) (f : Func) : RawExpr → Expr → Type 0 where
   shows_num : {at n : ℕ} {t : Ty} → Shows p f (e.Num at t n) (x.Num t n)
   shows_name : {y : Spot} {v : Var} → y.name ≡ name_text p f v → Shows p f (e.Name y) (x.Name v)
-  shows_elem : {y : Spot} {v : Var} {i : RawExpr} {j : Expr} → y.name ≡ name_text p f v → Shows p f i j → Shows p f (e.Elem y i) (x.Elem v j)
+  shows_elem : {y : Spot} {v : Var} {i : RawExpr} {j : Expr} → y.name ≡ name_text p f v → Shows p f i j
+      → Shows p f (e.Elem y i) (x.Elem v j)
   shows_un : {at : ℕ} {o : UnOp} {a : RawExpr} {b : Expr} → Shows p f a b → Shows p f (e.Un at o a) (x.Un o b)
   shows_cast : {at : ℕ} {t : Ty} {a : RawExpr} {b : Expr} → Shows p f a b → Shows p f (e.Cast at t a) (x.Cast t b)
-  shows_bin : {o : BinOp} {a c : RawExpr} {b d : Expr} → Shows p f a b → Shows p f c d → Shows p f (e.Bin o a c) (x.Bin o b d)
-  shows_cond : {a b c : RawExpr} {i j k : Expr} → Shows p f a i → Shows p f b j → Shows p f c k → Shows p f (e.Cond a b c) (x.Cond i j k)
+  shows_bin : {o : BinOp} {a c : RawExpr} {b d : Expr} → Shows p f a b → Shows p f c d → Shows p f (e.Bin o a c)
+      (x.Bin o b d)
+  shows_cond : {a b c : RawExpr} {i j k : Expr} → Shows p f a i → Shows p f b j → Shows p f c k
+      → Shows p f (e.Cond a b c) (x.Cond i j k)
   shows_paren : {at : ℕ} {a : RawExpr} {b : Expr} → Shows p f a b → Shows p f (e.Paren at a) b
 
 -- one by one
 pub data ShowAll (p : Program) (f : Func) : List RawExpr → List Expr → Type 0 where
   show_none : ShowAll p f [] []
-  show_more : {a : RawExpr} {b : Expr} {more : List RawExpr} {rest : List Expr} → Shows p f a b → ShowAll p f more rest → ShowAll p f (a ∷ more) (b ∷ rest)
+  show_more : {a : RawExpr} {b : Expr} {more : List RawExpr} {rest : List Expr} → Shows p f a b → ShowAll p f more rest
+      → ShowAll p f (a ∷ more) (b ∷ rest)
 
 abbrev pub ShowsOptional : Program → Func → Option RawExpr → Option Expr → Type 0
 ShowsOptional p f None None = Unit {0}
@@ -76,12 +119,14 @@ ShowsLength r (Some m) = (at : ℕ) × (r ≡ Some (e.Num at ty.Int m))
 
 abbrev pub ShowsPlace : Program → Func → RawPlace → Place → Type 0
 ShowsPlace p f r (place.Scalar v) = (y : Spot) × (r ≡ raw_place.Scalar y) × (y.name ≡ name_text p f v)
-ShowsPlace p f r (place.Elem v i) = (y : Spot) × (a : RawExpr) × (r ≡ raw_place.Elem y a) × (y.name ≡ name_text p f v) × Shows p f a i
+ShowsPlace p f r (place.Elem v i) = (y : Spot) × (a : RawExpr) × (r ≡ raw_place.Elem y a) × (y.name ≡ name_text p f v)
+    × Shows p f a i
 
 abbrev pub ShowsTarget : Program → Func → RawTarget → Target → Type 0
 ShowsTarget p f r target.Nothing = r ≡ raw_target.Nothing
 ShowsTarget p f r (target.Assign v) = (y : Spot) × (r ≡ raw_target.Assign y) × (y.name ≡ name_text p f v)
-ShowsTarget p f r (target.Declare n) = (t : Ty) × (y : Spot) × (r ≡ raw_target.Declare false t y) × DeclaresLocal f n t y None
+ShowsTarget p f r (target.Declare n) = (t : Ty) × (y : Spot) × (r ≡ raw_target.Declare false t y)
+    × DeclaresLocal f n t y None
 
 -- the name of the function g
 pub record NamesFunc (p : Program) (y : Spot) (g : ℕ) : Type 0 where
@@ -100,24 +145,33 @@ unfoldable mutual
   pub ShowsStmt : Program → Func → RawStmt → Stmt → Type 0
   ShowsStmt p f r Empty = r ≡ raw.Empty
   ShowsStmt p f r (Scalar n b) =
-      (t : Ty) × (y : Spot) × (a : Option RawExpr) × (r ≡ raw.Declare false t y (shape.Scalar a)) × DeclaresLocal f n t y None × ShowsOptional p f a b
+      (t : Ty) × (y : Spot) × (a : Option RawExpr) × (r ≡ raw.Declare false t y (shape.Scalar a))
+      × DeclaresLocal f n t y None × ShowsOptional p f a b
   ShowsStmt p f r (Array n bs) =
-      (t : Ty) × (y : Spot) × (m : ℕ) × (at : ℕ) × (es : List RawExpr) × (r ≡ raw.Declare false t y (shape.Array (Some (e.Num at ty.Int m)) (Some es))) × DeclaresLocal f n t y (Some m) × ShowAll p f es bs
+      (t : Ty) × (y : Spot) × (m : ℕ) × (at : ℕ) × (es : List RawExpr)
+      × (r ≡ raw.Declare false t y (shape.Array (Some (e.Num at ty.Int m)) (Some es)))
+      × DeclaresLocal f n t y (Some m) × ShowAll p f es bs
   ShowsStmt p f r (Assign v o b) =
       (q : RawPlace) × (a : RawExpr) × (r ≡ raw.Assign q o a) × ShowsPlace p f q v × Shows p f a b
   ShowsStmt p f r (Call t g bs) =
-      (u : RawTarget) × (y : Spot) × (es : List RawExpr) × (r ≡ raw.Call u y es) × ShowsTarget p f u t × NamesFunc p y g × ShowAll p f es bs
+      (u : RawTarget) × (y : Spot) × (es : List RawExpr) × (r ≡ raw.Call u y es) × ShowsTarget p f u t
+      × NamesFunc p y g × ShowAll p f es bs
   ShowsStmt p f r Break = (at : ℕ) × (r ≡ raw.Break at)
   ShowsStmt p f r Continue = (at : ℕ) × (r ≡ raw.Continue at)
   ShowsStmt p f r (Return b) = (at : ℕ) × (a : Option RawExpr) × (r ≡ raw.Return at a) × ShowsOptional p f a b
   ShowsStmt p f r (If' b m us n vs) =
-      (a : RawExpr) × (xs : List RawStmt) × (ys : List RawStmt) × (r ≡ raw.If a xs ys) × Shows p f a b × ShowsRow p f xs us × ShowsRow p f ys vs
+      (a : RawExpr) × (xs : List RawStmt) × (ys : List RawStmt) × (r ≡ raw.If a xs ys) × Shows p f a b
+      × ShowsRow p f xs us × ShowsRow p f ys vs
   ShowsStmt p f r (While' n b m us) =
-      (at : ℕ) × (k : Option RawBound) × (a : RawExpr) × (xs : List RawStmt) × (r ≡ raw.While at k a xs) × ShowsBound k n × Shows p f a b × ShowsRow p f xs us
+      (at : ℕ) × (k : Option RawBound) × (a : RawExpr) × (xs : List RawStmt) × (r ≡ raw.While at k a xs)
+      × ShowsBound k n × Shows p f a b × ShowsRow p f xs us
   ShowsStmt p f r (Do' n m us b) =
-      (at : ℕ) × (k : Option RawBound) × (xs : List RawStmt) × (a : RawExpr) × (r ≡ raw.Do at k xs a) × ShowsBound k n × ShowsRow p f xs us × Shows p f a b
+      (at : ℕ) × (k : Option RawBound) × (xs : List RawStmt) × (a : RawExpr) × (r ≡ raw.Do at k xs a) × ShowsBound k n
+      × ShowsRow p f xs us × Shows p f a b
   ShowsStmt p f r (For' n i b j m us) =
-      (at : ℕ) × (k : Option RawBound) × (x : Option RawStmt) × (a : RawExpr) × (z : Option RawStmt) × (xs : List RawStmt) × (r ≡ raw.For at k x a z xs) × ShowsBound k n × ShowsHeld p f x i × Shows p f a b × ShowsHeld p f z j × ShowsRow p f xs us
+      (at : ℕ) × (k : Option RawBound) × (x : Option RawStmt) × (a : RawExpr) × (z : Option RawStmt)
+      × (xs : List RawStmt) × (r ≡ raw.For at k x a z xs) × ShowsBound k n × ShowsHeld p f x i × Shows p f a b
+      × ShowsHeld p f z j × ShowsRow p f xs us
   ShowsStmt p f r (Group' m us) = (xs : List RawStmt) × (r ≡ raw.Group xs) × ShowsRow p f xs us
 
   pub ShowsRow : {m : _} → Program → Func → List RawStmt → Row_of-Stmt m → Type 0
@@ -165,7 +219,8 @@ ShowsFuncs p (g ∷ gs) (f ∷ fs) = ShowsFunc p g f × ShowsFuncs p gs fs
 abbrev pub ShowsValue : Ty → RawExpr → ℤ → Type 0
 ShowsValue t a (pos n) = (at : ℕ) × (a ≡ e.Num at t n)
 ShowsValue t a (negsuc n) =
-    (at : ℕ) × (from : ℕ) × (a ≡ (if n == 2 ^ 31 - 1 then e.Cast at ty.Int (e.Num from ty.Unsigned 2147483648) else e.Un at un.Minus (e.Num from t (suc n))))
+    (at : ℕ) × (from : ℕ) × (a ≡ (if n == 2 ^ 31 - 1 then e.Cast at ty.Int (e.Num from ty.Unsigned 2147483648)
+    else e.Un at un.Minus (e.Num from t (suc n))))
 
 abbrev pub ShowValues : Ty → List RawExpr → List ℤ → Type 0
 ShowValues t [] [] = Unit {0}
@@ -183,9 +238,11 @@ ShowsInitial t r (Some m) (z ∷ zs) =
 
 abbrev pub ShowsDeclaration : Bool → RawTop → Outside → Type 0
 ShowsDeclaration true r g =
-    (y : Spot) × (a : Option RawExpr) × (r ≡ top.Outer false g.ty y a) × (y.name ≡ g.name) × ShowsLength a g.length × (g.values ≡ [])
+    (y : Spot) × (a : Option RawExpr) × (r ≡ top.Outer false g.ty y a) × (y.name ≡ g.name) × ShowsLength a g.length
+    × (g.values ≡ [])
 ShowsDeclaration false r g =
-    (y : Spot) × (sh : RawShape) × (r ≡ top.Global false false g.ty y sh) × (y.name ≡ g.name) × ShowsInitial g.ty sh g.length g.values
+    (y : Spot) × (sh : RawShape) × (r ≡ top.Global false false g.ty y sh) × (y.name ≡ g.name)
+    × ShowsInitial g.ty sh g.length g.values
 
 pub record ShowsGlobal (r : RawTop) (g : Outside) : Type 0 where
   pub shown : ShowsDeclaration g.outer r g

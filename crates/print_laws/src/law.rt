@@ -7,22 +7,23 @@ ghost use Rattle.c_tree.specs.declared.tree.BinOp.TheVariants as op;
 ghost use Rattle.c_tree.specs.declared.tree.Expr.TheVariants.{Num, Un, Cast, Bin, Cond};
 ghost use Rattle.c_tree.specs.declared.program.Program.{Program};
 ghost use Rattle.c_tree.specs.declared.unit.Unit.{Unit as Tree};
-ghost use Rattle.c_tree.specs.Checked.{IsSpelled};
-ghost use Rattle.c_tree.specs.Refusals.{Typed};
+ghost use Rattle.c_tree.specs.Checking.Checked.{IsSpelled};
+ghost use Rattle.c_tree.specs.Checking.Refusals.{Typed};
 ghost use Rattle.print_laws.specs.Again.{IsReadAs};
-ghost use Rattle.print_laws.specs.Printed.{printed};
-ghost use Rattle.print_laws.specs.Worked.{return_of_zero, each_construct, a, b, c, shown};
+ghost use Rattle.print_laws.specs.Printed.{printed_program};
+ghost use Rattle.print_laws.specs.Worked.{named_return_of_zero, each_construct, a, b, c, worked_expr_text};
 
-/// A program that is typed from a unit which the tokens of some text spell is read again from its printed text: it has tokens,
-/// they spell a unit, and this is typed with the same entry as the same program.
+/// A program that is typed from a unit which the tokens of some text spell is read again from its printed text: it has
+/// tokens, they spell a unit, and this is typed with the same entry as the same program.
 pub fn printed_programs_are_read_again()
-    ensures { (unit : Tree) (entry : List ℕ) (p : Program) → IsSpelled unit → Typed unit entry p → IsReadAs (printed p) entry p }
+    ensures { (unit : Tree) (entry : List ℕ) (p : Program) → IsSpelled unit → Typed unit entry p
+        → IsReadAs (printed_program p) entry p }
 {}
 
 /// Programs and their texts.
 pub fn worked_programs()
-    ensures zero { printed return_of_zero ≡ codes "int main(void) {\n    return 0;\n}\n" }
-    ensures each { printed each_construct ≡
+    ensures zero { printed_program named_return_of_zero ≡ codes "int main(void) {\n    return 0;\n}\n" }
+    ensures each { printed_program each_construct ≡
         codes "extern unsigned mode;\n"
         ++ codes "extern int sample[4];\n"
         ++ codes "int low = -5;\n"
@@ -73,18 +74,18 @@ pub fn worked_programs()
 
 /// Expressions: parentheses stand only where the tree needs them, and round a unary operand that is itself unary.
 pub fn worked_expressions()
-    ensures left { shown (Bin op.Sub (Bin op.Sub a b) c) ≡ codes "a - b - c" }
-    ensures right { shown (Bin op.Sub a (Bin op.Sub b c)) ≡ codes "a - (b - c)" }
-    ensures looser { shown (Bin op.Mul (Bin op.Add a b) c) ≡ codes "(a + b) * c" }
-    ensures tighter { shown (Bin op.Add a (Bin op.Mul b c)) ≡ codes "a + b * c" }
-    ensures minus { shown (Un un.Minus (Un un.Minus a)) ≡ codes "-(-a)" }
-    ensures other { shown (Un un.Not (Un un.Flip a)) ≡ codes "!(~a)" }
-    ensures subtracted { shown (Bin op.Sub a (Un un.Minus b)) ≡ codes "a - -b" }
-    ensures cast { shown (Un un.Minus (Cast ty.Unsigned (Un un.Plus a))) ≡ codes "-(unsigned)+a" }
-    ensures twice { shown (Cast ty.Int (Cast ty.Unsigned a)) ≡ codes "(int)(unsigned)a" }
-    ensures sum { shown (Cast ty.Int (Bin op.Add a b)) ≡ codes "(int)(a + b)" }
-    ensures chain { shown (Cond a b (Cond b c a)) ≡ codes "a ? b : b ? c : a" }
-    ensures middle { shown (Cond a (Cond b c a) c) ≡ codes "a ? b ? c : a : c" }
-    ensures condition { shown (Cond (Cond a b c) b c) ≡ codes "(a ? b : c) ? b : c" }
-    ensures suffix { shown (Bin op.Shl (Num ty.Unsigned 1) a) ≡ codes "1u << a" }
+    ensures left { worked_expr_text (Bin op.Sub (Bin op.Sub a b) c) ≡ codes "a - b - c" }
+    ensures right { worked_expr_text (Bin op.Sub a (Bin op.Sub b c)) ≡ codes "a - (b - c)" }
+    ensures looser { worked_expr_text (Bin op.Mul (Bin op.Add a b) c) ≡ codes "(a + b) * c" }
+    ensures tighter { worked_expr_text (Bin op.Add a (Bin op.Mul b c)) ≡ codes "a + b * c" }
+    ensures minus { worked_expr_text (Un un.Minus (Un un.Minus a)) ≡ codes "-(-a)" }
+    ensures other { worked_expr_text (Un un.Not (Un un.Flip a)) ≡ codes "!(~a)" }
+    ensures subtracted { worked_expr_text (Bin op.Sub a (Un un.Minus b)) ≡ codes "a - -b" }
+    ensures cast { worked_expr_text (Un un.Minus (Cast ty.Unsigned (Un un.Plus a))) ≡ codes "-(unsigned)+a" }
+    ensures twice { worked_expr_text (Cast ty.Int (Cast ty.Unsigned a)) ≡ codes "(int)(unsigned)a" }
+    ensures sum { worked_expr_text (Cast ty.Int (Bin op.Add a b)) ≡ codes "(int)(a + b)" }
+    ensures chain { worked_expr_text (Cond a b (Cond b c a)) ≡ codes "a ? b : b ? c : a" }
+    ensures middle { worked_expr_text (Cond a (Cond b c a) c) ≡ codes "a ? b ? c : a : c" }
+    ensures condition { worked_expr_text (Cond (Cond a b c) b c) ≡ codes "(a ? b : c) ? b : c" }
+    ensures suffix { worked_expr_text (Bin op.Shl (Num ty.Unsigned 1) a) ≡ codes "1u << a" }
 {}

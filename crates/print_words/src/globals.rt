@@ -1,7 +1,7 @@
 //! The lines of globals, each written at the end of a text.
 
 ghost use Rattle.std.specs.Prelude.{◌≡◌, ◌++◌, OnOk, codes, flat_map};
-ghost use Rattle.print_laws.specs.PrintedExpressions.{value_text, joined};
+ghost use Rattle.print_laws.specs.PrintedExpressions.{value_text, comma_list};
 ghost use Rattle.print_laws.specs.PrintedStatements.{list_text};
 ghost use Rattle.print_laws.specs.Printed.{outer_text, initial_text, global_text};
 
@@ -22,7 +22,8 @@ pub fn push_global(text: &mut Vec<u8>, global: &Global) -> Result<(), NoMemory>
 }
 
 // The initialiser of a global of this type and length.
-#[tactic(auto, unfolding(print_laws::specs::Printed::initial_text, print_laws::specs::PrintedStatements::list_text, print_laws::specs::PrintedExpressions::joined))]
+#[tactic(auto, unfolding(print_laws::specs::Printed::initial_text, print_laws::specs::PrintedStatements::list_text,
+    print_laws::specs::PrintedExpressions::comma_list))]
 fn push_initial(
     text: &mut Vec<u8>,
     ty: Ty,
@@ -47,7 +48,8 @@ fn push_initial(
 }
 
 fn push_more_values(text: &mut Vec<u8>, ty: Ty, values: &[i64]) -> Result<(), NoMemory>
-    ensures { OnOk result (text.new.items ≡ text.old.items ++ flat_map (λ z. codes ", " ++ value_text ty z) values.now) }
+    ensures { OnOk result (text.new.items ≡ text.old.items ++ flat_map (λ z. codes ", " ++ value_text ty z) values.now)
+        }
 {
     for value in values {
         push(text, b", ")?;

@@ -1,7 +1,7 @@
 //! Where parentheses stand: how tightly operators and expressions hold together (C11 6.5).
 
 ghost use Rattle.std.specs.Prelude.{◌≡◌, ◌≤◌};
-ghost use Rattle.c_tree.specs.SpelledExpressions.{level};
+ghost use Rattle.c_tree.specs.Grammar.SpelledExpressions.{level};
 ghost use Rattle.print_laws.specs.PrintedExpressions.{strength};
 
 use c_tree::{BinOp, Expr};
@@ -33,8 +33,8 @@ pub fn level(op: BinOp) -> u32
     }
 }
 
-/// How tightly an expression holds together: as the levels of the grammar, but a cast more tightly than a unary operator,
-/// so that no unary operator stands right before another.
+/// How tightly an expression holds together: as the levels of the grammar, but a cast more tightly than a unary
+/// operator, so that no unary operator stands right before another.
 pub fn strength(expr: &Expr) -> u32
     ensures { result ≡ strength expr.now }
 {

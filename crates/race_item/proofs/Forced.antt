@@ -11,10 +11,11 @@ use Rattle.race_item.specs.declared.region.Region.{Region}
 use Rattle.race_item.specs.Regions.{Covers, MayGoOn, MustGoOn, IsFront}
 use Rattle.race_item.specs.Items.{IsItem}
 use Rattle.race_item.specs.Facts.{IsRefuted}
-use Rattle.race_item.specs.Forks.{behind, IsRoomBehind}
+use Rattle.race_item.specs.Forks.{region_behind, IsRoomBehind}
 use Rattle.race_item.specs.Forced.{IsForcedFor, GoesOnByTwo}
-use Rattle.race_item.proofs.Fronts.{driven_may, step_on, not_at_exit, begins_with_front}
+use Rattle.race_item.proofs.Fronts.{driven_may, not_at_exit, begins_with_front}
 use Rattle.race_item.proofs.Extended.{may_go, may_follow}
+use Rattle.path_walk.proofs.Covers.{step_on}
 
 pub prefix_forced : (plan : Planned) (r : Region) → IsItem plan r → IsForcedFor plan.program r r.prefix
 prefix_forced plan r item = record { contiguous = item.contiguous; begins_all = λ w driven covers. covers.begins }
@@ -56,7 +57,7 @@ pub walk_forced : (p : Program) (r : Region) (q room more : List ℕ) → IsForc
 walk_forced p r q room more start rooms forced =
     along p r q room more rooms forced [] more refl (subst (IsForcedFor p r) (sym (append-nil q)) start)
 
-pub past_fork_forced : (plan : Planned) (r : Region) (q : List ℕ) (on other : ℕ) → IsForcedFor plan.program r q → GoesOnByTwo plan.program r.cuts q on other → IsRefuted plan (behind r q other) → IsForcedFor plan.program r (q ++ on ∷ [])
+pub past_fork_forced : (plan : Planned) (r : Region) (q : List ℕ) (on other : ℕ) → IsForcedFor plan.program r q → GoesOnByTwo plan.program r.cuts q on other → IsRefuted plan (region_behind r q other) → IsForcedFor plan.program r (q ++ on ∷ [])
 past_fork_forced plan r q on other forced two refuted = record {
   contiguous = two.may.contiguous;
   begins_all = λ w driven covers.

@@ -1,19 +1,20 @@
 -- The room that is left of the upper limits behind a list.
 use Rattle.std.proofs.Common.{◌≡◌, ◌≤◌, ◌<◌, ◌⊎◌, inl, inr, ⊎_elim, ℕ, zero, suc, ◌+◌, true, false, if◌then◌else◌, List, [], ◌∷◌, ◌++◌, length, Option, Some, None, refl, sym, ap, ◌∙◌, subst, arith}
 use Rattle.std.specs.Prelude.{slice_get, slice_set, slice_index, option_and_then, ◌==◌}
-use Rattle.std.proofs.lemmas.Bool.{eqb-true, ne_eqb}
+use Rattle.std.proofs.lemmas.Bool.{eqb-true, ne_eqb, cases_lt}
 use Rattle.std.proofs.lemmas.List.{length-set, get_or-set_same, get_or-set_other}
 use Rattle.std.proofs.lemmas.Option.{slice_get_within, get_or_from_slice_get, slice_get_past, unwrap_or-slice_get}
 use Rattle.c_tree.specs.declared.program.Program.{Program}
 use Rattle.flow_laws.specs.Graphs.{graph, edges}
-use Rattle.flow_laws.specs.Paths.{count}
+use Rattle.flow_laws.specs.Paths.{edge_count}
 use Rattle.ipet_rows.specs.CapsBound.{cap_at}
 use Rattle.race_item.specs.declared.region.Cut.{Cut}
 use Rattle.race_item.specs.declared.region.Cut.{Cut}
 use Rattle.race_item.specs.Regions.{upper_limit}
-use Rattle.race_item.specs.Trials.{AreUpperLimits, one_taken, taken, IsRoomOf}
-use Rattle.race_item.proofs.Fronts.{self_same}
+use Rattle.race_item.specs.Trials.{AreUpperLimits, one_taken, room_after, IsRoomOf}
 use Rattle.race_item.proofs.Forks.{least_within}
+use Rattle.plain_laws.proofs.Lists.{length-push}
+use Rattle.plain_laws.proofs.Numbers.{equals_itself}
 
 -- ---- limits, one more
 
@@ -29,16 +30,12 @@ snoc_at (y ∷ xs) x f each is zero lt = each 0 (omega arith)
 snoc_at (y ∷ xs) x f each is (suc j) lt =
     snoc_at xs x (λ k. f (suc k)) (λ k l. each (suc k) (omega (arith, l))) is j (omega (arith, lt))
 
-length-snoc : (xs : List ℕ) (x : ℕ) → length (xs ++ x ∷ []) ≡ suc (length xs)
-length-snoc [] x = refl
-length-snoc (y ∷ xs) x = ap suc (length-snoc xs x)
-
 pub no_limit : (p : Program) (cuts : List Cut) → AreFirst p cuts [] 0
 no_limit p cuts = record { many = refl; each = λ j lt. absurd (omega (arith, lt)) }
 
 pub next_limit : (p : Program) (cuts : List Cut) (old new : List ℕ) (n x : ℕ) → AreFirst p cuts old n → x ≡ upper_limit p cuts n → new ≡ old ++ x ∷ [] → AreFirst p cuts new (n + 1)
 next_limit p cuts old new n x first is more = subst (λ l. AreFirst p cuts l (n + 1)) (sym more) (record {
-  many = let one = length-snoc old x in let many = first.many in omega (arith, one, many);
+  many = let one = length-push old x in let many = first.many in omega (arith, one, many);
   each = snoc_at old x (upper_limit p cuts) first.each (is ∙ ap (upper_limit p cuts) (sym first.many));
 })
 
@@ -59,15 +56,10 @@ by_place p cuts limits e first (inl lt) = first.each e lt
 by_place p cuts limits e first (inr le) =
     past_index limits e le ∙ sym (past_limits p cuts e (let many = first.many in omega (arith, le, many)))
 
-place : (e n : ℕ) → (e < n) ⊎ (n ≤ e)
-place e zero = inr (omega arith)
-place zero (suc n) = inl (omega arith)
-place (suc e) (suc n) = ⊎_elim (λ lt. inl (omega (arith, lt))) (λ le. inr (omega (arith, le))) (place e n)
-
 pub all_limits : (p : Program) (cuts : List Cut) (limits : List ℕ) (n : ℕ) → AreFirst p cuts limits n → n ≡ length (edges (graph p)) → AreUpperLimits p cuts limits
 all_limits p cuts limits n first all =
     let whole : AreFirst p cuts limits (length (edges (graph p))) = subst (AreFirst p cuts limits) all first in
-    record { many = whole.many; each = λ e. by_place p cuts limits e whole (place e (length limits)) }
+    record { many = whole.many; each = λ e. by_place p cuts limits e whole (cases_lt e (length limits)) }
 
 -- ---- one of the room
 
@@ -75,12 +67,12 @@ all_limits p cuts limits n first all =
 abbrev is_it : ℕ → ℕ → ℕ
 is_it j e = if j == e then 1 else 0
 
-count_cons : (j e : ℕ) (q : List ℕ) → count (j ∷ q) e ≡ is_it j e + count q e
+count_cons : (j e : ℕ) (q : List ℕ) → edge_count (j ∷ q) e ≡ is_it j e + edge_count q e
 count_cons j e q =
-    elim (j == e) as (λ b. (if b then suc (count q e) else count q e) ≡ (if b then 1 else 0) + count q e) [ true ↦ omega arith | false ↦ omega arith ]
+    elim (j == e) as (λ b. (if b then suc (edge_count q e) else edge_count q e) ≡ (if b then 1 else 0) + edge_count q e) [ true ↦ omega arith | false ↦ omega arith ]
 
 self_one : (j : ℕ) → is_it j j ≡ 1
-self_one j = ap (λ b. if b then 1 else 0) (self_same j)
+self_one j = ap (λ b. if b then 1 else 0) (equals_itself j)
 
 -- what is taken of one edge is gone from its room
 one_set : (room : List ℕ) (j n e : ℕ) → slice_get room j ≡ Some (suc n) → slice_index (slice_set room j n) e + is_it j e ≡ slice_index room e
@@ -104,12 +96,12 @@ no_index (x ∷ room) (suc j) is = no_index room j is
 
 pub record IsLeft (room q left : List ℕ) : Type 0 where
   pub long : length left ≡ length room
-  pub each : (e : ℕ) → slice_index left e + count q e ≡ slice_index room e
+  pub each : (e : ℕ) → slice_index left e + edge_count q e ≡ slice_index room e
 
 abbrev More : List ℕ → List ℕ → List ℕ → Type 0
-More room q left = taken room q ≡ Some left → IsLeft room q left
+More room q left = room_after room q ≡ Some left → IsLeft room q left
 
-left_by : (room : List ℕ) (j : ℕ) (q left : List ℕ) → ((r : List ℕ) → More r q left) → (o : Option ℕ) → slice_get room j ≡ o → option_and_then (λ r. taken r q) (one_taken room j o) ≡ Some left → IsLeft room (j ∷ q) left
+left_by : (room : List ℕ) (j : ℕ) (q left : List ℕ) → ((r : List ℕ) → More r q left) → (o : Option ℕ) → slice_get room j ≡ o → option_and_then (λ r. room_after r q) (one_taken room j o) ≡ Some left → IsLeft room (j ∷ q) left
 left_by room j q left ih None is h = absurd (cc)
 left_by room j q left ih (Some zero) is h = absurd (cc)
 left_by room j q left ih (Some (suc n)) is h =
@@ -125,7 +117,7 @@ left_of [] room left h =
     record { long = ap length (sym same); each = λ e. let at : slice_index room e ≡ slice_index left e = ap (λ l. slice_index l e) same in omega (arith, at) }
 left_of (j ∷ q) room left h = left_by room j q left (λ r. left_of q r left) (slice_get room j) refl h
 
-none_by : (room : List ℕ) (j : ℕ) (q : List ℕ) → ((r : List ℕ) → taken r q ≡ None → ((e : ℕ) → count q e ≤ slice_index r e) → ⊥) → (o : Option ℕ) → slice_get room j ≡ o → option_and_then (λ r. taken r q) (one_taken room j o) ≡ None → ((e : ℕ) → count (j ∷ q) e ≤ slice_index room e) → ⊥
+none_by : (room : List ℕ) (j : ℕ) (q : List ℕ) → ((r : List ℕ) → room_after r q ≡ None → ((e : ℕ) → edge_count q e ≤ slice_index r e) → ⊥) → (o : Option ℕ) → slice_get room j ≡ o → option_and_then (λ r. room_after r q) (one_taken room j o) ≡ None → ((e : ℕ) → edge_count (j ∷ q) e ≤ slice_index room e) → ⊥
 none_by room j q ih None is h enough =
     let le = enough j in let counted = count_cons j j q in let one = self_one j in let none = no_index room j is in omega (arith, le, counted, one, none)
 none_by room j q ih (Some zero) is h enough =
@@ -133,13 +125,13 @@ none_by room j q ih (Some zero) is h enough =
 none_by room j q ih (Some (suc n)) is h enough =
     ih (slice_set room j n) h (λ e. let le = enough e in let counted = count_cons j e q in let one = one_set room j n e is in omega (arith, le, counted, one))
 
-none_left : (q : List ℕ) (room : List ℕ) → taken room q ≡ None → ((e : ℕ) → count q e ≤ slice_index room e) → ⊥
+none_left : (q : List ℕ) (room : List ℕ) → room_after room q ≡ None → ((e : ℕ) → edge_count q e ≤ slice_index room e) → ⊥
 none_left [] room h enough = absurd (cc)
 none_left (j ∷ q) room h enough = none_by room j q (none_left q) (slice_get room j) refl h enough
 
 -- ---- the room of a region
 
-room_by : (p : Program) (cuts : List Cut) (q limits : List ℕ) → AreUpperLimits p cuts limits → (o : Option (List ℕ)) → taken limits q ≡ o → IsRoomOf p cuts q o
+room_by : (p : Program) (cuts : List Cut) (q limits : List ℕ) → AreUpperLimits p cuts limits → (o : Option (List ℕ)) → room_after limits q ≡ o → IsRoomOf p cuts q o
 room_by p cuts q limits are None is =
     λ within. none_left q limits is (λ e. let le = within e in let at = are.each e in omega (arith, le, at))
 room_by p cuts q limits are (Some room) is =
@@ -149,5 +141,5 @@ room_by p cuts q limits are (Some room) is =
       left.long ∙ are.many,
     )
 
-pub room_is : (p : Program) (cuts : List Cut) (q limits : List ℕ) (o : Option (List ℕ)) → AreUpperLimits p cuts limits → o ≡ taken limits q → IsRoomOf p cuts q o
+pub room_is : (p : Program) (cuts : List Cut) (q limits : List ℕ) (o : Option (List ℕ)) → AreUpperLimits p cuts limits → o ≡ room_after limits q → IsRoomOf p cuts q o
 room_is p cuts q limits o are is = room_by p cuts q limits are o (sym is)

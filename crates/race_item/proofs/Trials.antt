@@ -2,15 +2,15 @@
 use Rattle.std.proofs.Common.{◌≡◌, ◌≤◌, ◌<◌, ℕ, zero, suc, ◌+◌, ◌-◌, Bool, true, false, List, [], ◌∷◌, ◌++◌, length, take, Option, Some, None, refl, sym, ap, ◌∙◌, subst, arith}
 use Rattle.std.specs.Prelude.{slice_get, is_some, IsTrue, IsSomeAnd, ◌&&◌, ◌↔◌, nat_le, MatchOption}
 use Rattle.std.specs.List.{list_all}
-use Rattle.std.proofs.lemmas.Bool.{false≢true}
+use Rattle.std.proofs.lemmas.Bool.{false≢true, and_parts, and_from}
 use Rattle.std.proofs.lemmas.Bool.Decides.{nat_tests}
-use Rattle.c_tree.specs.WellFormed.{WellFormed}
+use Rattle.c_tree.specs.Keeping.WellFormed.{WellFormed}
 use Rattle.c_tree.specs.declared.program.Program.{Program}
 use Rattle.c_tree.specs.declared.program.Input.{Input}
 use Rattle.flow_laws.specs.Graphs.{graph, edges, loops}
 use Rattle.flow_laws.specs.Paths.{follows, keeps_each}
 use Rattle.flow_graph.specs.Plans.{Planned}
-use Rattle.ipet_rows.specs.Counts.{counts}
+use Rattle.ipet_rows.specs.Counts.{edge_counts}
 use Rattle.path_walk.specs.declared.next.Next.{Next}
 use Rattle.path_walk.specs.declared.next.Next.TheVariants.{Fork}
 use Rattle.path_walk.specs.Walks.{IsAnswer}
@@ -22,7 +22,7 @@ use Rattle.race_item.specs.Lists.{EachOf}
 use Rattle.race_item.specs.Regions.{IsWithin}
 use Rattle.race_item.specs.Items.{IsItem}
 use Rattle.race_item.specs.Facts.{IsSplit}
-use Rattle.race_item.specs.Forks.{IsWithinLimits, IsRoomBehind, ForkOf, SplitsAt, FindsBy, behind}
+use Rattle.race_item.specs.Forks.{IsWithinLimits, IsRoomBehind, ForkOf, SplitsAt, FindsBy, region_behind}
 use Rattle.race_item.specs.Trials.{HasNoFork, IsOnlyFork, IsNoFork, IsLightAndDriven, SplitsNowhere, MaySettle, is_within, keeps_cuts}
 use Rattle.race_item.proofs.Boxes.{driven_in_box}
 use Rattle.race_item.proofs.Forks.{same_front, fork_splits}
@@ -107,14 +107,6 @@ two_children none one two x y x' y' is_none is_one is_two is_x is_y =
 
 -- ---- cuts
 
-both_parts : (x y : Bool) → (x && y) ≡ true → (x ≡ true) × (y ≡ true)
-both_parts true true e = (refl, refl)
-both_parts true false e = absurd (cc)
-both_parts false y e = absurd (cc)
-
-both_true : (x y : Bool) → x ≡ true → y ≡ true → (x && y) ≡ true
-both_true x y h k = λ i. h i && k i
-
 at_most : (a b : ℕ) → nat_le a b ≡ true → a ≤ b
 at_most a b h = grind (arith, nat_tests)
 
@@ -139,18 +131,18 @@ below_low cut m n same is lt =
 within_is : (cut : Cut) (o : Option ℕ) → (is_within cut o ≡ true) ↔ IsSomeAnd o (λ n. (cut.lo ≤ n) × (n ≤ cut.hi))
 within_is cut None = (λ h. absurd (false≢true h), λ h. absurd h)
 within_is cut (Some n) = (
-  λ h. let parts = both_parts (nat_le cut.lo n) (nat_le n cut.hi) h in (at_most cut.lo n parts.0, at_most n cut.hi parts.1),
-  λ h. both_true (nat_le cut.lo n) (nat_le n cut.hi) (most_at cut.lo n h.0) (most_at n cut.hi h.1),
+  λ h. let parts = and_parts (nat_le cut.lo n) (nat_le n cut.hi) h in (at_most cut.lo n parts.0, at_most n cut.hi parts.1),
+  λ h. and_from (nat_le cut.lo n) (nat_le n cut.hi) (most_at cut.lo n h.0) (most_at n cut.hi h.1),
 )
 
-pub cuts_is : (p : Program) (q : List ℕ) (cuts : List Cut) → (keeps_cuts p q cuts ≡ true) ↔ EachOf (IsWithin (counts p q)) cuts
+pub cuts_is : (p : Program) (q : List ℕ) (cuts : List Cut) → (keeps_cuts p q cuts ≡ true) ↔ EachOf (IsWithin (edge_counts p q)) cuts
 cuts_is p q [] = (λ h. tt, λ h. refl)
 cuts_is p q (cut ∷ cuts) = (
-  λ h. let parts = both_parts (is_within cut (slice_get (counts p q) cut.edge)) (keeps_cuts p q cuts) h in ((within_is cut (slice_get (counts p q) cut.edge)).0 parts.0, (cuts_is p q cuts).0 parts.1),
-  λ h. both_true (is_within cut (slice_get (counts p q) cut.edge)) (keeps_cuts p q cuts) ((within_is cut (slice_get (counts p q) cut.edge)).1 h.0) ((cuts_is p q cuts).1 h.1),
+  λ h. let parts = and_parts (is_within cut (slice_get (edge_counts p q) cut.edge)) (keeps_cuts p q cuts) h in ((within_is cut (slice_get (edge_counts p q) cut.edge)).0 parts.0, (cuts_is p q cuts).0 parts.1),
+  λ h. and_from (is_within cut (slice_get (edge_counts p q) cut.edge)) (keeps_cuts p q cuts) ((within_is cut (slice_get (edge_counts p q) cut.edge)).1 h.0) ((cuts_is p q cuts).1 h.1),
 )
 
-pub cuts_at : (plan plan' : Planned) (r : Region) (path : List ℕ) (cuts : List Cut) (kept : Bool) → plan' ≡ plan → cuts ≡ r.cuts → kept ≡ keeps_cuts plan'.program path cuts → (kept ≡ true) ↔ EachOf (IsWithin (counts plan.program path)) r.cuts
+pub cuts_at : (plan plan' : Planned) (r : Region) (path : List ℕ) (cuts : List Cut) (kept : Bool) → plan' ≡ plan → cuts ≡ r.cuts → kept ≡ keeps_cuts plan'.program path cuts → (kept ≡ true) ↔ EachOf (IsWithin (edge_counts plan.program path)) r.cuts
 cuts_at plan plan' r path cuts kept is_plan is_cuts is =
     let whole : kept ≡ keeps_cuts plan.program path r.cuts = is ∙ (λ i. keeps_cuts (is_plan i).program path (is_cuts i)) in
     let both = cuts_is plan.program path r.cuts in

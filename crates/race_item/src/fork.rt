@@ -22,13 +22,14 @@ use std::alloc::Global;
 /// A list above this weight is not decided.
 pub(crate) const MOST_WEIGHT: u64 = 262_144;
 
-/// Splits an item at its next fork, which the input drives. The fork is the two lists that `path_walk::extend` gives from the
-/// item's prefix, where an edge has as much room as its upper limit in the item's box leaves behind the prefix; its stem is
-/// what both are without their last edges. The two children have the item's box and bound and, in this order, the two lists.
+/// Splits an item at its next fork, which the input drives. The fork is the two lists that `path_walk::extend` gives
+/// from the item's prefix, where an edge has as much room as its upper limit in the item's box leaves behind the
+/// prefix; its stem is what both are without their last edges. The two children have the item's box and bound and, in
+/// this order, the two lists.
 ///
 /// There is none exactly where the prefix breaks a loop's bound or has an edge more often than its upper limit, where
-/// `extend` gives no fork, where the stem weighs more than 262,144, or where the input does not fit or does not drive the
-/// stem. `NoMemory` is want of memory.
+/// `extend` gives no fork, where the stem weighs more than 262,144, or where the input does not fit or does not drive
+/// the stem. `NoMemory` is want of memory.
 pub fn by_fork<'p>(
     alloc: Global,
     item: &Item<'p>,

@@ -2,10 +2,10 @@
 
 ghost use Rattle.std.specs.Prelude.{◌≡◌, ◌↔◌, true, Some, IsTrue, IfOk, IfSome, IfNone, slice_get};
 ghost use Rattle.flow_laws.specs.Graphs.{graph, edges};
-ghost use Rattle.flow_laws.specs.Paths.{led, follows, count, IsPath};
+ghost use Rattle.flow_laws.specs.Paths.{end_node, follows, edge_count, IsPath};
 ghost use Rattle.flow_laws.specs.Claims.{Begins};
-ghost use Rattle.ipet_rows.specs.Counts.{counts};
-ghost use Rattle.race_item.specs.Items.{cost_of};
+ghost use Rattle.ipet_rows.specs.Counts.{edge_counts};
+ghost use Rattle.race_item.specs.Items.{list_cost};
 ghost use Rattle.race_item.specs.Forks.{FindsBy};
 ghost use Rattle.race_item.specs.Trials.{IsFoundByPath, MaySettle, is_within, keeps_cuts};
 
@@ -20,9 +20,9 @@ use std::alloc::Global;
 /// The node of Exit.
 const EXIT: u32 = 1;
 
-/// Settles an item by a path that the input drives: what is found is the input, at the path's price. It does so exactly where
-/// the list is a path that weighs at most 262,144, the item covers it, the input fits and drives it, and its price is the
-/// item's bound or the item's prefix is the whole path. `NoMemory` is want of memory.
+/// Settles an item by a path that the input drives: what is found is the input, at the path's price. It does so
+/// exactly where the list is a path that weighs at most 262,144, the item covers it, the input fits and drives it, and
+/// its price is the item's bound or the item's prefix is the whole path. `NoMemory` is want of memory.
 pub fn by_path<'p>(
     alloc: Global,
     item: &Item<'p>,
@@ -80,7 +80,7 @@ fn is_path(plan: &Plan, list: &[u16]) -> bool
 // The node to which the list leads from Entry.
 fn end_of(plan: &Plan, list: &[u16]) -> u32
     requires { follows (edges (graph plan.now.program)) list.now ≡ true }
-    ensures { led (edges (graph plan.now.program)) 0 list.now ≡ Some result }
+    ensures { end_node (edges (graph plan.now.program)) 0 list.now ≡ Some result }
 {
     let mut at = 0;
     for e in list {
@@ -95,7 +95,8 @@ fn begins(path: &[u16], prefix: &[u16]) -> bool
     path.starts_with(prefix)
 }
 
-/// Whether the counts of a list of edges lie within each cut, and each cut names an edge of the plan. It takes no memory.
+/// Whether the counts of a list of edges lie within each cut, and each cut names an edge of the plan. It takes no
+/// memory.
 pub fn keeps_cuts(plan: &Plan, list: &[u16], cuts: &[Cut]) -> bool
     ensures { result ≡ keeps_cuts plan.now.program list.now cuts.now }
 {
@@ -108,7 +109,7 @@ pub fn keeps_cuts(plan: &Plan, list: &[u16], cuts: &[Cut]) -> bool
 }
 
 fn keeps_cut(plan: &Plan, list: &[u16], cut: Cut) -> bool
-    ensures { result ≡ is_within cut (slice_get (counts plan.now.program list.now) cut.edge) }
+    ensures { result ≡ is_within cut (slice_get (edge_counts plan.now.program list.now) cut.edge) }
 {
     if u32::from(cut.edge) >= plan.edges() {
         return false;
@@ -119,7 +120,7 @@ fn keeps_cut(plan: &Plan, list: &[u16], cut: Cut) -> bool
 
 // How often the list has the edge.
 fn count(list: &[u16], edge: u16) -> u64
-    ensures { result ≡ count list.now edge }
+    ensures { result ≡ edge_count list.now edge }
 {
     let mut times: u64 = 0;
     for e in list {
@@ -133,7 +134,7 @@ fn count(list: &[u16], edge: u16) -> u64
 /// What a list of edges costs that is contiguous from Entry: the sum of what its edges do. It takes no memory.
 pub fn price(plan: &Plan, list: &[u16]) -> u128
     requires { follows (edges (graph plan.now.program)) list.now ≡ true }
-    ensures { result ≡ cost_of plan.now list.now }
+    ensures { result ≡ list_cost plan.now list.now }
 {
     let mut sum: u128 = 0;
     for e in list {

@@ -1,10 +1,10 @@
 //! How often edges may still be taken behind a list.
 
 ghost use Rattle.std.specs.Prelude.{◌≡◌, ◌<◌, ◌==◌, min, if◌then◌else◌, length, slice_get, IfOk};
-ghost use Rattle.c_tree.specs.WellFormed.{WellFormed};
+ghost use Rattle.c_tree.specs.Keeping.WellFormed.{WellFormed};
 ghost use Rattle.flow_laws.specs.Graphs.{graph, edges};
 ghost use Rattle.race_item.specs.Regions.{upper_limit};
-ghost use Rattle.race_item.specs.Trials.{AreUpperLimits, IsRoomOf, one_taken, taken};
+ghost use Rattle.race_item.specs.Trials.{AreUpperLimits, IsRoomOf, one_taken, room_after};
 
 use crate::item::Item;
 use crate::region::Cut;
@@ -14,9 +14,9 @@ use flow_laws::laws::edges::edges_join_nodes;
 use sqlite_items::Items;
 use std::alloc::Global;
 
-/// For each edge, how often it may still be taken behind a list: its upper limit in the item's box less the times that it
-/// stands in the list. There is no room where the list has an edge more often than its upper limit. `NoMemory` is want of
-/// memory.
+/// For each edge, how often it may still be taken behind a list: its upper limit in the item's box less the times that
+/// it stands in the list. There is no room where the list has an edge more often than its upper limit. `NoMemory` is
+/// want of memory.
 pub fn room_behind<'p>(
     alloc: Global,
     item: &Item<'p>,
@@ -66,7 +66,7 @@ fn lowered(most: u64, cut: Cut, e: u16) -> u64
 
 // The room that is left behind a list, if there is enough for it.
 fn take_all(mut room: Items<u64>, list: &[u16]) -> Option<Items<u64>>
-    ensures { result ≡ taken room list.now }
+    ensures { result ≡ room_after room list.now }
 {
     for e in list {
         room = take(room, *e)?;

@@ -1,6 +1,6 @@
-//! Cases of the texts of reports, line by line. Headings are written as they are, and for each case its answer stands on
-//! one line. A text has `@` for each line feed, `\` and two hexadecimal digits for a byte, and `\[N PIECE\]` for a piece
-//! so many times. The cases:
+//! Cases of the texts of reports, line by line. Headings are written as they are, and for each case its answer stands
+//! on one line. A text has `@` for each line feed, `\` and two hexadecimal digits for a byte, and `\[N PIECE\]` for a
+//! piece so many times. The cases:
 //!
 //! - `read ## TEXT`: the report that the text says, after `ok`, or the line at which it leaves the form. Of the report
 //!   the number of block copies and the first bound, each shown value as its bound and its best, and the end;

@@ -10,7 +10,7 @@ use Rattle.report_text.specs.declared.report.Spent.{Spent}
 use Rattle.report_text.specs.declared.report.Spent.TheVariants.{Turns, Conflicts, Weight}
 use Rattle.report_text.specs.declared.stage.Stage.{Stage}
 use Rattle.report_text.specs.declared.stage.Stage.TheVariants.{Start, BehindCopies, Watching, BehindExact, BehindInexact, BehindBest}
-use Rattle.report_text.specs.Texts.{line_text, behind_blank, maybe_text, spent_name, numbered}
+use Rattle.report_text.specs.Texts.{line_text, behind_blank, maybe_text, spent_name, numbered_line}
 use Rattle.report_text.specs.Conditions.{IsCost, MayBeCost}
 use Rattle.report_text.specs.Form.{Allows}
 use Rattle.text_lines.proofs.Decimals.{one_number}
@@ -85,11 +85,11 @@ record SameSpent (a b : Spent) (m n : ℕ) : Type 0 where
   spent : a ≡ b
   number : decimal m ++ 10 ∷ [] ≡ decimal n ++ 10 ∷ []
 
-same_spent : (a b : Spent) (m n : ℕ) → numbered (spent_name a) m ≡ numbered (spent_name b) n → SameSpent a b m n
+same_spent : (a b : Spent) (m n : ℕ) → numbered_line (spent_name a) m ≡ numbered_line (spent_name b) n → SameSpent a b m n
 same_spent Turns Turns m n same = record { spent = refl; number = cc }
 same_spent Conflicts Conflicts m n same = record { spent = refl; number = cc }
 same_spent Weight Weight m n same = record { spent = refl; number = cc }
-same_spent a b m n same = absurd (differ (mark (numbered (spent_name a) m)) (mark (numbered (spent_name b) n)) refl (ap mark same))
+same_spent a b m n same = absurd (differ (mark (numbered_line (spent_name a) m)) (mark (numbered_line (spent_name b) n)) refl (ap mark same))
 
 pub one_line : (a b : ReportLine) → IsLine a → IsLine b → line_text a ≡ line_text b → a ≡ b
 one_line (Copies m) (Copies n) one other same = let tail : decimal m ++ 10 ∷ [] ≡ decimal n ++ 10 ∷ [] = cc in ap (λ k. Copies k) (same_number_text m n one other tail)
@@ -102,7 +102,7 @@ one_line Nothing Nothing one other same = refl
 one_line (Inexact m) (Inexact n) one other same = let tail : decimal m ++ 10 ∷ [] ≡ decimal n ++ 10 ∷ [] = cc in ap (λ k. Inexact k) (same_number_text m n one other tail)
 one_line (Best a) (Best b) one other same = let tail : maybe_text a ≡ maybe_text b = cc in ap (λ k. Best k) (same_maybe a b one other tail)
 one_line (SpentLine a m) (SpentLine b n) one other same =
-    let tail : numbered (spent_name a) m ≡ numbered (spent_name b) n = cc in
+    let tail : numbered_line (spent_name a) m ≡ numbered_line (spent_name b) n = cc in
     let parts = same_spent a b m n tail in
     ap (λ s. SpentLine s m) parts.spent ∙ ap (λ k. SpentLine b k) (same_number_text m n one other parts.number)
 one_line a b one other same = absurd (differ (mark (line_text a)) (mark (line_text b)) refl (ap mark same))

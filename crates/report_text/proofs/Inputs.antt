@@ -1,11 +1,10 @@
 -- The input line, byte by byte.
 use Rattle.std.proofs.Common.{◌≡◌, ◌≢◌, ℕ, ◌^◌, ◌<◌, ◌==◌, not, ◌⊎◌, inl, inr, List, [], ◌∷◌, ◌++◌, length, codes, All, refl, sym, ◌∙◌, ap, subst, arith, append_assoc, length-append}
 use Rattle.std.specs.List.{list_all}
-use Rattle.std.proofs.lemmas.Bool.{false≢true}
+use Rattle.std.proofs.lemmas.Bool.{false≢true, and_parts}
 use Rattle.std.proofs.lemmas.List.Folds.{list_all-append}
 use Rattle.std.proofs.lemmas.List.Elements.{All-nil, All-cons, All-head, All-tail, All-push}
 use Rattle.text_lines.specs.Cutting.{HasNoFeed, EndsInFeed, IsUnfinished}
-use Rattle.text_lines.proofs.Bytes.{and_true}
 use Rattle.report_text.specs.declared.report.ReportLine.TheVariants.{Input}
 use Rattle.report_text.specs.declared.stage.Stage.TheVariants.{BehindExact}
 use Rattle.report_text.specs.Courses.{IsOne, Stops}
@@ -13,7 +12,7 @@ use Rattle.report_text.specs.Form.{Allows}
 use Rattle.report_text.proofs.Injective.{same_back}
 
 feedless_back : (a b : List ℕ) → HasNoFeed (a ++ b) → HasNoFeed b
-feedless_back a b one = (and_true (list_all (λ b. not (b == 10)) a) (list_all (λ b. not (b == 10)) b) (sym (list_all-append (λ b. not (b == 10)) a b) ∙ one)).1
+feedless_back a b one = (and_parts (list_all (λ b. not (b == 10)) a) (list_all (λ b. not (b == 10)) b) (sym (list_all-append (λ b. not (b == 10)) a b) ∙ one)).1
 
 ends_back : (w b v : List ℕ) → 0 < length b → w ++ b ≡ v ++ 10 ∷ [] → (before : List ℕ) × (b ≡ before ++ 10 ∷ [])
 ends_back [] b v some same = (v, same)

@@ -6,7 +6,7 @@ use Rattle.report_text.specs.declared.kind.Kind.{Kind}
 use Rattle.report_text.specs.declared.kind.Kind.TheVariants as kind
 use Rattle.report_text.specs.declared.course.LineCourse.{LineCourse}
 use Rattle.report_text.specs.declared.course.LineCourse.TheVariants.{Is, MayGrow, Breaks}
-use Rattle.report_text.specs.Texts.{numbered, line_text}
+use Rattle.report_text.specs.Texts.{numbered_line, line_text}
 use Rattle.report_text.specs.Courses.{IsOne, Stops, IsNone, IsCourse, either, IsNumbered, StopsInNumber, IsNoNumber, kind_words, kind_line, kind_limit, IsOfKind}
 
 pub either_is : (P Q : ReportLine → Type 0) (text : List ℕ) (one other : LineCourse) → IsCourse P text one → IsCourse Q text other → IsCourse (λ line. P line ⊎ Q line) text (either one other)
@@ -31,7 +31,7 @@ among_same P Q text Breaks to from is = record { never = λ line more among. is.
 
 -- ---- lines with a number
 
-kind_text : (kind : Kind) (n : ℕ) → line_text (kind_line kind n) ≡ numbered (kind_words kind) n
+kind_text : (kind : Kind) (n : ℕ) → line_text (kind_line kind n) ≡ numbered_line (kind_words kind) n
 kind_text kind.Copies n = refl
 kind_text kind.Ipet n = refl
 kind_text kind.Bound n = refl

@@ -8,6 +8,7 @@ use Rattle.report_text.specs.declared.course.NumberCourse.{NumberCourse}
 use Rattle.report_text.specs.declared.course.NumberCourse.TheVariants.{Is, MayGrow, Breaks}
 use Rattle.text_lines.proofs.Decimals.{wide, one_number}
 use Rattle.report_text.proofs.Decimals.{digits, closed, opened, front_of, with_zero, nil_back}
+use Rattle.std.proofs.lemmas.List.{append_cancel_left}
 
 -- ---- behind the words
 
@@ -80,10 +81,6 @@ stops_none (b ∷ bs) limit except none some = absurd (omega (arith, none))
 
 -- ---- with the words
 
-same_front : (w a b : List ℕ) → w ++ a ≡ w ++ b → a ≡ b
-same_front [] a b is = is
-same_front (x ∷ xs) a b is = let tail : xs ++ a ≡ xs ++ b = cc in same_front xs a b tail
-
 pub behind_words : (words text behind : List ℕ) (limit : ℕ) (except : Option ℕ) (course : NumberCourse) → text ≡ words ++ behind → IsNumberCourse [] limit except behind course → IsNumberCourse words limit except text course
 behind_words words text behind limit except (Is n) split is = record { choice = is.choice; whole = split ∙ ap (λ t. words ++ t) is.whole }
 behind_words words text behind limit except MayGrow split is = record {
@@ -94,7 +91,7 @@ behind_words words text behind limit except MayGrow split is = record {
   whole = ap (λ t. t ++ is.more) split ∙ append_assoc words behind is.more ∙ ap (λ t. words ++ t) is.whole;
 }
 behind_words words text behind limit except Breaks split is = record {
-  never = λ n more choice same. is.never n more choice (same_front words (behind ++ more) (decimal n ++ 10 ∷ []) (sym (append_assoc words behind more) ∙ ap (λ t. t ++ more) (sym split) ∙ same));
+  never = λ n more choice same. is.never n more choice (append_cancel_left words (behind ++ more) (decimal n ++ 10 ∷ []) (sym (append_assoc words behind more) ∙ ap (λ t. t ++ more) (sym split) ∙ same));
 }
 
 pub within_words : (words text rest : List ℕ) (limit : ℕ) (except : Option ℕ) → 0 < limit → words ≡ text ++ rest → StopsInNumber words limit except text

@@ -1,5 +1,26 @@
 -- Which reports have a text, and which report a text has.
-use Rattle.std.specs.Prelude.{◌≡◌, ◌≤◌, ◌<◌, ◌^◌, ℕ, Bool, true, false, not, ◌==◌, Option, Some, None, List, [], ◌∷◌, length, All, IfSome, IsTrue}
+use Rattle.std.specs.Prelude.{
+  ◌≡◌,
+  ◌≤◌,
+  ◌<◌,
+  ◌^◌,
+  ℕ,
+  Bool,
+  true,
+  false,
+  not,
+  ◌==◌,
+  Option,
+  Some,
+  None,
+  List,
+  [],
+  ◌∷◌,
+  length,
+  All,
+  IfSome,
+  IsTrue,
+}
 use Rattle.std.specs.List.{list_all}
 use Rattle.report_text.specs.declared.report.Shown.{Shown}
 use Rattle.report_text.specs.declared.report.Spent.{Spent}

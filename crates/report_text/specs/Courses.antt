@@ -5,11 +5,20 @@ use Rattle.report_text.specs.declared.course.LineCourse.{LineCourse}
 use Rattle.report_text.specs.declared.course.LineCourse.TheVariants.{Is, MayGrow, Breaks}
 use Rattle.report_text.specs.declared.course.NumberCourse.{NumberCourse}
 use Rattle.report_text.specs.declared.course.NumberCourse.TheVariants as number
-use Rattle.report_text.specs.declared.report.ReportLine.TheVariants.{Copies, Ipet, Bound, Found, Exact, Inexact, Best, Spent as SpentLine}
+use Rattle.report_text.specs.declared.report.ReportLine.TheVariants.{
+  Copies,
+  Ipet,
+  Bound,
+  Found,
+  Exact,
+  Inexact,
+  Best,
+  Spent as SpentLine,
+}
 use Rattle.report_text.specs.declared.report.Spent.TheVariants.{Turns, Conflicts}
 use Rattle.report_text.specs.declared.kind.Kind.{Kind}
 use Rattle.report_text.specs.declared.kind.Kind.TheVariants as kind
-use Rattle.report_text.specs.Texts.{same, numbered, line_text}
+use Rattle.report_text.specs.Texts.{same, numbered_line, line_text}
 
 -- ---- one of these lines
 
@@ -49,17 +58,17 @@ IsChoice limit except n = (n ≤ limit) × (same except (Some n) ≡ false)
 
 pub record IsNumbered (words : List ℕ) (limit : ℕ) (except : Option ℕ) (text : List ℕ) (n : ℕ) : Type 0 where
   pub choice : IsChoice limit except n
-  pub whole : text ≡ numbered words n
+  pub whole : text ≡ numbered_line words n
 
 pub record StopsInNumber (words : List ℕ) (limit : ℕ) (except : Option ℕ) (text : List ℕ) : Type 0 where
   pub n : ℕ
   pub choice : IsChoice limit except n
   pub more : List ℕ
   pub some : 0 < length more
-  pub whole : text ++ more ≡ numbered words n
+  pub whole : text ++ more ≡ numbered_line words n
 
 pub record IsNoNumber (words : List ℕ) (limit : ℕ) (except : Option ℕ) (text : List ℕ) : Type 0 where
-  pub never : (n : ℕ) (more : List ℕ) → IsChoice limit except n → text ++ more ≢ numbered words n
+  pub never : (n : ℕ) (more : List ℕ) → IsChoice limit except n → text ++ more ≢ numbered_line words n
 
 abbrev pub IsNumberCourse : List ℕ → ℕ → Option ℕ → List ℕ → NumberCourse → Type 0
 IsNumberCourse words limit except text (number.Is n) = IsNumbered words limit except text n

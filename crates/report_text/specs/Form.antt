@@ -1,9 +1,28 @@
 -- The form of a report as lines that follow one another.
 use Rattle.std.specs.Prelude.{◌≡◌, ◌<◌, ◌^◌, ℕ, false, Some, None, List, [], ◌∷◌, ◌++◌, All, IsTrue}
 use Rattle.report_text.specs.declared.report.ReportLine.{ReportLine}
-use Rattle.report_text.specs.declared.report.ReportLine.TheVariants.{Copies, Ipet, Bound, Found, Exact, Input, Nothing, Inexact, Best, Spent as SpentLine}
+use Rattle.report_text.specs.declared.report.ReportLine.TheVariants.{
+  Copies,
+  Ipet,
+  Bound,
+  Found,
+  Exact,
+  Input,
+  Nothing,
+  Inexact,
+  Best,
+  Spent as SpentLine,
+}
 use Rattle.report_text.specs.declared.stage.Stage.{Stage}
-use Rattle.report_text.specs.declared.stage.Stage.TheVariants.{Start, BehindCopies, Watching, BehindExact, BehindInexact, BehindBest, Whole}
+use Rattle.report_text.specs.declared.stage.Stage.TheVariants.{
+  Start,
+  BehindCopies,
+  Watching,
+  BehindExact,
+  BehindInexact,
+  BehindBest,
+  Whole,
+}
 use Rattle.report_text.specs.Texts.{same, keeps_bound, best_of, lines_text}
 use Rattle.report_text.specs.Conditions.{has_no_feed, is_limit_of, IsCost, MayBeCost}
 

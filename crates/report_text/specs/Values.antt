@@ -16,9 +16,12 @@ bound_of (Some before) = before.bound
 -- a line of a best right behind one of a bound belongs to the same value; each other line of either begins a value of
 -- its own, which keeps the best, or the bound, of the value before
 abbrev pub values_of : Option Shown → List ReportLine → List Shown
-values_of before (Bound bound ∷ Found cost ∷ lines) = record { bound = bound; best = Some cost } ∷ values_of (Some (record { bound = bound; best = Some cost })) lines
-values_of before (Bound bound ∷ lines) = record { bound = bound; best = best_of before } ∷ values_of (Some (record { bound = bound; best = best_of before })) lines
-values_of before (Found cost ∷ lines) = record { bound = bound_of before; best = Some cost } ∷ values_of (Some (record { bound = bound_of before; best = Some cost })) lines
+values_of before (Bound bound ∷ Found cost ∷ lines) = record { bound = bound; best = Some cost }
+    ∷ values_of (Some (record { bound = bound; best = Some cost })) lines
+values_of before (Bound bound ∷ lines) = record { bound = bound; best = best_of before }
+    ∷ values_of (Some (record { bound = bound; best = best_of before })) lines
+values_of before (Found cost ∷ lines) = record { bound = bound_of before; best = Some cost }
+    ∷ values_of (Some (record { bound = bound_of before; best = Some cost })) lines
 values_of before lines = []
 
 -- the first two lines are not those of a report

@@ -93,7 +93,8 @@ fn bound_value(
     bound: Option<u128>,
     lines: &[ReportLine],
 ) -> (Shown, &[ReportLine])
-    ensures value { values_of before (ReportLine.Bound bound ∷ lines.now) ≡ result.0 ∷ values_of (Some result.0) result.1.now }
+    ensures value { values_of before (ReportLine.Bound bound ∷ lines.now) ≡ result.0 ∷ values_of (Some result.0)
+        result.1.now }
     ensures shorter { length result.1.now < length lines.now + 1 }
 {
     match best_behind(lines) {

@@ -13,5 +13,6 @@ pub fn one_report()
 /// A report that is written is read, and what is read of it has the same text.
 pub fn read_again()
     ensures read { (r : Report) → IsReport r → IsReportText (report_text r) }
-    ensures same { (r other : Report) → IsReport r → IsReadAs (report_text r) other → report_text other ≡ report_text r }
+    ensures same { (r other : Report) → IsReport r → IsReadAs (report_text r) other → report_text other
+        ≡ report_text r }
 {}

@@ -20,9 +20,9 @@ use std::alloc::{AllocError, Global};
 use text_lines::first_line;
 
 /// The report that a text says, as `lines` writes it. Of the lists of shown values that have this text it is the
-/// shortest: a line `found` right behind a line `bound` belongs to the same value. Every line ends with a line feed, the
-/// words and numbers of a line have one blank between them, and numbers have no leading zero. The number of `blocks` and
-/// the limit have 32 bits, costs have 128.
+/// shortest: a line `found` right behind a line `bound` belongs to the same value. Every line ends with a line feed,
+/// the words and numbers of a line have one blank between them, and numbers have no leading zero. The number of
+/// `blocks` and the limit have 32 bits, costs have 128.
 pub fn read_report(alloc: Global, text: &[u8]) -> Result<Report, ReportFault>
     requires { length text.now < 2 ^ 32 }
     ensures read { IfOk result (IsReadAs text.now) }

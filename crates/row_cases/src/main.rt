@@ -1,7 +1,7 @@
-//! Cases of rows, bounds, boxes and made programs, line by line. Headings are written as they are, and for each case its
-//! answer stands on one line, with `@` for each line feed. A row is its terms, each an edge, `:` and its factor, then
-//! `<=` or `=` and its right side; rows have `;` between them. Limits are the least and the greatest count with `..`
-//! between them. The cases:
+//! Cases of rows, bounds, boxes and made programs, line by line. Headings are written as they are, and for each case
+//! its answer stands on one line, with `@` for each line feed. A row is its terms, each an edge, `:` and its factor,
+//! then `<=` or `=` and its right side; rows have `;` between them. Limits are the least and the greatest count with
+//! `..` between them. The cases:
 //!
 //! - `rows ## EDGES ## ROWS` and `box ## LIMITS`: what was made, or `none`;
 //! - `objective ## COSTS` and `multipliers ## D ## NUMBERS`: what was made;

@@ -15,12 +15,12 @@ use Rattle.c_tree.specs.declared.value.Value.{Value}
 use Rattle.c_tree.specs.declared.value.Slot.{Slot}
 use Rattle.c_tree.specs.declared.value.Store.{Store}
 use Rattle.c_tree.specs.declared.value.Way.TheVariants as way
-use Rattle.c_tree.specs.Values.{is_true}
-use Rattle.c_tree.specs.Expressions.{val, all_values}
-use Rattle.c_tree.specs.Blocks.{is_simple, blocks, row_blocks, held_blocks}
-use Rattle.c_tree.specs.Statements.{Callee, Back, Gives, Lost, Outcome, Ends, Undefined, OverBound, with_value, stored, after, then_do, turn_do, block, entered, simple, while_turns, do_turns, unset_target, give, come_back, call, return_value, exec, row_exec, held_exec, list_exec}
-use Rattle.c_tree.specs.Runs.{entry_slots, back, callee, callees, Run, Ended, IsUndefined, IsOverBound, run_of, started, run}
-use Rattle.c_tree.specs.Spans.{begun_span, span_at, span, row_span, held_span, list_span, func_span, spans}
+use Rattle.c_tree.specs.Meaning.Values.{is_nonzero}
+use Rattle.c_tree.specs.Meaning.Expressions.{val, all_values}
+use Rattle.c_tree.specs.Meaning.Blocks.{is_simple, blocks, row_blocks, held_blocks}
+use Rattle.c_tree.specs.Meaning.Statements.{Callee, Back, Gives, CallUndefined, CallOverBound, Outcome, Ends, Undefined, OverBound, with_value, store_outcome, after, then_do, turn_do, block, entered_block, simple, while_turns, do_turns, unset_target, give, come_back, call, return_value, exec, row_exec, held_exec, list_exec}
+use Rattle.c_tree.specs.Meaning.Runs.{entry_slots, back, callee, callees, Run, Ended, IsUndefined, IsOverBound, run_of, entry_run, run}
+use Rattle.c_tree.specs.Meaning.Spans.{begun_span, span_at, span, row_span, held_span, list_span, func_span, spans}
 
 -- ---- a span is its scale times that of the scale 1
 
@@ -125,7 +125,7 @@ turn_within a b (Ends t s (way.Return v)) go h on = omega (arith, h)
 turn_within a b Undefined go h on = tt
 turn_within a b OverBound go h on = tt
 
-stored_within : (n : ℕ) (o : Option Store) → Within n (stored o)
+stored_within : (n : ℕ) (o : Option Store) → Within n (store_outcome o)
 stored_within n None = tt
 stored_within n (Some s) = omega arith
 
@@ -136,28 +136,29 @@ one_long c = omega arith
 
 while_within : (a b n : ℕ) (c : BlockName) (e : Expr) (body step : Store → Outcome) → ((s : Store) → Within a (body s)) → ((s : Store) → Within b (step s)) → (s : Store) → Within ((n + 1) + n * (a + b)) (while_turns n c e body step s)
 while_within a b zero c e body step hb hs s =
-    let go = λ (v : Value). if is_true v then OverBound else Ends [] s way.Next in
-    weaker (1 + 0) _ (after (c ∷ []) (with_value (val e s) go)) (omega arith) (after_within 1 0 (c ∷ []) (with_value (val e s) go) (one_long c) (value_within 0 (val e s) go (λ v. choice_within 0 (is_true v) OverBound (Ends [] s way.Next) tt (omega arith))))
+    let go = λ (v : Value). if is_nonzero v then OverBound else Ends [] s way.Next in
+    weaker (1 + 0) _ (after (c ∷ []) (with_value (val e s) go)) (omega arith) (after_within 1 0 (c ∷ []) (with_value (val e s) go) (one_long c) (value_within 0 (val e s) go (λ v. choice_within 0 (is_nonzero v) OverBound (Ends [] s way.Next) tt (omega arith))))
 while_within a b (suc n) c e body step hb hs s =
     let rest = (n + 1) + n * (a + b) in
     let again = λ (s' : Store). then_do (step s') (while_turns n c e body step) in
-    let go = λ (v : Value). if is_true v then turn_do (body s) again else Ends [] s way.Next in
+    let go = λ (v : Value). if is_nonzero v then turn_do (body s) again else Ends [] s way.Next in
     let turn = turn_within a (b + rest) (body s) again (hb s) (λ s'. then_within b rest (step s') (while_turns n c e body step) (hs s') (while_within a b n c e body step hb hs)) in
-    weaker (1 + (a + (b + rest))) _ (after (c ∷ []) (with_value (val e s) go)) (omega arith) (after_within 1 (a + (b + rest)) (c ∷ []) (with_value (val e s) go) (one_long c) (value_within (a + (b + rest)) (val e s) go (λ v. choice_within (a + (b + rest)) (is_true v) (turn_do (body s) again) (Ends [] s way.Next) turn (omega arith))))
+    weaker (1 + (a + (b + rest))) _ (after (c ∷ []) (with_value (val e s) go)) (omega arith) (after_within 1 (a + (b + rest)) (c ∷ []) (with_value (val e s) go) (one_long c) (value_within (a + (b + rest)) (val e s) go (λ v. choice_within (a + (b + rest)) (is_nonzero v) (turn_do (body s) again) (Ends [] s way.Next) turn (omega arith))))
 
 do_within : (a n : ℕ) (c : BlockName) (e : Expr) (body : Store → Outcome) → ((s : Store) → Within a (body s)) → (s : Store) → Within (n * a + n) (do_turns n c e body s)
 do_within a zero c e body hb s = tt
 do_within a (suc n) c e body hb s =
     let rest = n * a + n in
-    let test = λ (s' : Store) (v : Value). if is_true v then do_turns n c e body s' else Ends [] s' way.Next in
+    let test = λ (s' : Store) (v : Value). if is_nonzero v then do_turns n c e body s' else Ends [] s' way.Next in
     let again = λ (s' : Store). after (c ∷ []) (with_value (val e s') (test s')) in
-    weaker (a + (1 + rest)) _ (turn_do (body s) again) (omega arith) (turn_within a (1 + rest) (body s) again (hb s) (λ s'. after_within 1 rest (c ∷ []) (with_value (val e s') (test s')) (one_long c) (value_within rest (val e s') (test s') (λ v. choice_within rest (is_true v) (do_turns n c e body s') (Ends [] s' way.Next) (do_within a n c e body hb s') (omega arith)))))
+    weaker (a + (1 + rest)) _ (turn_do (body s) again) (omega arith) (turn_within a (1 + rest) (body s) again (hb s) (λ s'. after_within 1 rest (c ∷ []) (with_value (val e s') (test s')) (one_long c) (value_within rest (val e s') (test s') (λ v. choice_within rest (is_nonzero v) (do_turns n c e body s') (Ends [] s' way.Next) (do_within a n c e body hb s') (omega arith)))))
 
 -- ---- calls
 
 abbrev BackWithin : ℕ → Back → Type 0
 BackWithin n (Gives t gs v) = length t ≤ n
-BackWithin n (Lost o) = Within n o
+BackWithin n CallUndefined = Within n Undefined
+BackWithin n CallOverBound = Within n OverBound
 
 abbrev CalleeWithin : ℕ → Callee → Type 0
 CalleeWithin n c = (vs : List Value) (gs : List Slot) → BackWithin n (c vs gs)
@@ -179,7 +180,8 @@ back_within : (n : ℕ) (t : Target) (s : Store) (b : Back) → BackWithin n b �
 back_within n t s (Gives u gs v) h =
     let s' : Store = record { locals = s.locals; globals = gs } in
     weaker (n + 0) n (after u (give t v s')) (omega arith) (after_within n 0 u (give t v s') h (give_within t v s'))
-back_within n t s (Lost o) h = h
+back_within n t s CallUndefined h = h
+back_within n t s CallOverBound h = h
 
 call_within : (ss : List ℕ) (cs : List Callee) → AllWithin ss cs → (g : ℕ) (t : Target) (o : Option (List Value)) (s : Store) → Within (span_at ss g) (call (slice_get cs g) t o s)
 call_within [] [] h g t o s = tt
@@ -195,13 +197,13 @@ return_within (Some e) s = value_within 0 (val e s) (λ v. Ends [] s (way.Return
 
 -- ---- statements
 
-entered_long : (f n : ℕ) (run : Bool) → length (entered f n run) ≤ begun_span 1 run
+entered_long : (f n : ℕ) (run : Bool) → length (entered_block f n run) ≤ begun_span 1 run
 entered_long f n true = omega arith
 entered_long f n false = omega arith
 
-simple_within : (f n : ℕ) (run : Bool) (o : Option Store) → Within (begun_span 1 run) (after (entered f n run) (stored o))
+simple_within : (f n : ℕ) (run : Bool) (o : Option Store) → Within (begun_span 1 run) (after (entered_block f n run) (store_outcome o))
 simple_within f n run o =
-    weaker (begun_span 1 run + 0) (begun_span 1 run) (after (entered f n run) (stored o)) (omega arith) (after_within (begun_span 1 run) 0 (entered f n run) (stored o) (entered_long f n run) (stored_within 0 o))
+    weaker (begun_span 1 run + 0) (begun_span 1 run) (after (entered_block f n run) (store_outcome o)) (omega arith) (after_within (begun_span 1 run) 0 (entered_block f n run) (store_outcome o) (entered_long f n run) (stored_within 0 o))
 
 while_sum : (k p q : ℕ) → q ≡ (1 * k) * p → (k + 1) + k * (p + 0) ≤ 1 * (k + 1) + q
 while_sum k p q e = omega (arith, e)
@@ -233,8 +235,8 @@ module _ (ss : List ℕ) (cs : List Callee) (all : AllWithin ss cs) (f : ℕ) wh
         let q = row_span ss 1 y false in
         let first = row_exec cs f x (n + 1) false s in
         let second = row_exec cs f y (n + 1 + row_blocks x false) false s in
-        let go = λ (v : Value). if is_true v then first else second in
-        weaker (1 + (p + q)) (1 + p + q) (after (block f n ∷ []) (with_value (val e s) go)) (omega arith) (after_within 1 (p + q) (block f n ∷ []) (with_value (val e s) go) (one_long (block f n)) (value_within (p + q) (val e s) go (λ v. choice_within (p + q) (is_true v) first second (weaker p (p + q) first (omega arith) (row_within x (n + 1) false s)) (weaker q (p + q) second (omega arith) (row_within y (n + 1 + row_blocks x false) false s)))))
+        let go = λ (v : Value). if is_nonzero v then first else second in
+        weaker (1 + (p + q)) (1 + p + q) (after (block f n ∷ []) (with_value (val e s) go)) (omega arith) (after_within 1 (p + q) (block f n ∷ []) (with_value (val e s) go) (one_long (block f n)) (value_within (p + q) (val e s) go (λ v. choice_within (p + q) (is_nonzero v) first second (weaker p (p + q) first (omega arith) (row_within x (n + 1) false s)) (weaker q (p + q) second (omega arith) (row_within y (n + 1 + row_blocks x false) false s)))))
     stmt_within (While' k e a x) n run s =
         let p = row_span ss 1 x false in
         let body = row_exec cs f x (n + 1) false in
@@ -306,11 +308,10 @@ RunWithin n IsOverBound = Unit {0}
 
 back_run : (n : ℕ) (b : Back) → BackWithin n b → RunWithin n (run_of b)
 back_run n (Gives t gs v) h = h
-back_run n (Lost (Ends t s w)) h = h
-back_run n (Lost Undefined) h = tt
-back_run n (Lost OverBound) h = tt
+back_run n CallUndefined h = tt
+back_run n CallOverBound h = tt
 
-started_within : (ss : List ℕ) (cs : List Callee) → AllWithin ss cs → (g : ℕ) (vs : List Value) (gs : List Slot) → RunWithin (span_at ss g) (started (slice_get cs g) vs gs)
+started_within : (ss : List ℕ) (cs : List Callee) → AllWithin ss cs → (g : ℕ) (vs : List Value) (gs : List Slot) → RunWithin (span_at ss g) (entry_run (slice_get cs g) vs gs)
 started_within [] [] h g vs gs = tt
 started_within [] (c ∷ cs) h g vs gs = absurd h
 started_within (n ∷ ns) [] h g vs gs = absurd h

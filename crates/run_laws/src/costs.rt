@@ -3,9 +3,9 @@
 ghost use Rattle.std.specs.Prelude.{◌≡◌, ◌<◌, ◌^◌, ℕ, List, slice_get, unwrap_or};
 ghost use Rattle.c_tree.specs.declared.program.BlockName.{BlockName};
 ghost use Rattle.c_tree.specs.declared.program.Input.{Input};
-ghost use Rattle.c_tree.specs.Claims.{block_cost, cost};
-ghost use Rattle.c_tree.specs.Runs.{Ended, run};
-ghost use Rattle.c_tree.specs.WellFormed.{WellFormed};
+ghost use Rattle.c_tree.specs.Meaning.Claims.{block_cost, trace_cost};
+ghost use Rattle.c_tree.specs.Meaning.Runs.{Ended, run};
+ghost use Rattle.c_tree.specs.Keeping.WellFormed.{WellFormed};
 
 use c_tree::{Costs, Program};
 
@@ -13,7 +13,7 @@ use c_tree::{Costs, Program};
 /// costs as much as 2^32. It leaves both as they are.
 pub fn costs_of_runs_fit(program: &Program, costs: &Costs)
     requires formed { WellFormed program.now }
-    ensures { (i : Input) (u : List BlockName) → run program.now i ≡ Ended u → cost costs.now u < 2 ^ 128 }
+    ensures { (i : Input) (u : List BlockName) → run program.now i ≡ Ended u → trace_cost costs.now u < 2 ^ 128 }
 {
     costs_are_small(costs);
 }

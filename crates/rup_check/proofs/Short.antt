@@ -20,7 +20,7 @@ use Rattle.rup_check.proofs.Codes.{code, code_small, same_code}
 use Rattle.rup_check.proofs.Values.{none_made}
 
 -- line k, where there is one
-found_line : (P : LogLine → Type 0) (o : Option LogLine) → IsSomeAnd o P → (line : LogLine) × (o ≡ Some line) × P line
+pub found_line : (P : LogLine → Type 0) (o : Option LogLine) → IsSomeAnd o P → (line : LogLine) × (o ≡ Some line) × P line
 found_line P None h = absurd h
 found_line P (Some line) h = (line, refl, h)
 

@@ -4,10 +4,11 @@ use Rattle.rup_check.specs.Follows.{IsMade, IsFalse, IsUnit}
 
 -- wherever all literals of the clause but one are false, that one is in the list
 abbrev pub IsPropagated : List ℤ → List ℤ → Type 0
-IsPropagated made literals = (l : ℤ) → Contains literals l → All (λ m. m ≢ l → IsMade made (neg_ℤ m)) literals → IsMade made l
+IsPropagated made literals = (l : ℤ) → Contains literals l → All (λ m. m ≢ l → IsMade made (neg_ℤ m)) literals
+    → IsMade made l
 
--- a list of literals is closed under unit propagation over some clauses: no literal stands in it beside its negation, no
--- clause is false, and of a clause whose literals but one are false, that one is in the list
+-- a list of literals is closed under unit propagation over some clauses: no literal stands in it beside its negation,
+-- no clause is false, and of a clause whose literals but one are false, that one is in the list
 pub record IsClosed (clauses : List (List ℤ)) (made : List ℤ) : Type 0 where
   pub consistent : (l : ℤ) → IsMade made l → ¬ IsMade made (neg_ℤ l)
   pub none_false : All (λ literals. ¬ IsFalse made literals) clauses

@@ -17,17 +17,20 @@ pub fn accepted_has_no_solution()
 /// A clause that teaches over some clauses contains none of them: so a line of a worked log contains no clause of the
 /// formula and no earlier line.
 pub fn teaching_is_new()
-    ensures { (clauses : List (List ℤ)) (known literals : List ℤ) → Contains clauses known → All (Contains literals) known → ¬ Teaches clauses literals }
+    ensures { (clauses : List (List ℤ)) (known literals : List ℤ) → Contains clauses known → All (Contains literals)
+        known → ¬ Teaches clauses literals }
 {}
 
-/// A worked log of n lines is shorter than 3^v, v the number of variables of its formula: its lines are different clauses,
-/// none of them empty.
+/// A worked log of n lines is shorter than 3^v, v the number of variables of its formula: its lines are different
+/// clauses, none of them empty.
 pub fn worked_is_short()
-    ensures { (cnf : Cnf) (log : Log) (n : ℕ) → AreClauses (map (λ line. line.clause) log.lines) → IsWorked cnf log n → n < 3 ^ cnf.variables }
+    ensures { (cnf : Cnf) (log : Log) (n : ℕ) → AreClauses (map (λ line. line.clause) log.lines) → IsWorked cnf log n
+        → n < 3 ^ cnf.variables }
 {}
 
 /// A worked log that has a line needs a list of literals that is closed under unit propagation over its formula: where
 /// unit propagation alone refutes the formula, there is none.
 pub fn worked_needs_closed()
-    ensures { (cnf : Cnf) (log : Log) (n : ℕ) → 0 < n → IsWorked cnf log n → (made : List ℤ) × IsClosed cnf.clauses made }
+    ensures { (cnf : Cnf) (log : Log) (n : ℕ) → 0 < n → IsWorked cnf log n → (made : List ℤ)
+        × IsClosed cnf.clauses made }
 {}

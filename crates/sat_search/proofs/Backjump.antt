@@ -11,13 +11,14 @@ use Rattle.rup_check.specs.Follows.{IsUnit, Follows}
 use Rattle.rup_check.specs.Closed.{Teaches}
 use Rattle.rup_check.specs.Accepted.{clauses_of}
 use Rattle.rup_check.specs.Trail.{IsWithin}
-use Rattle.rup_check.proofs.Values.{unsigned_abs-neg}
 use Rattle.search_tables.specs.Trail.{Trail, literal_at, variable_at}
 use Rattle.sat_search.specs.Sound.{IsReason, IsKnownAnd, IsSound}
 use Rattle.sat_search.specs.Learning.{IsOfPlaces, GoesBack}
 use Rattle.sat_search.specs.Working.{IsWorking}
 use Rattle.sat_search.proofs.Keeping.{neg_twice}
 use Rattle.sat_search.proofs.TracingBack.{taken_place, place_taken, one_place}
+use Rattle.plain_laws.proofs.Lists.{get-last}
+use Rattle.plain_laws.proofs.Integers.{unsigned_abs-neg}
 
 -- ---- the learned clause
 
@@ -95,10 +96,6 @@ get_more {X = X} xs x k within = at xs k within
     at (y ∷ ys) zero h = refl
     at (y ∷ ys) (suc j) h = at ys j (omega arith)
 
-get_last : {X : Type 0} (xs : List X) (x : X) → slice_get (xs ++ x ∷ []) (length xs) ≡ Some x
-get_last [] x = refl
-get_last (y ∷ ys) x = get_last ys x
-
 pub still_known : (known : List (List ℤ)) (clause : List ℤ) (number : ℕ) (P : List ℤ → Type 0) → IsKnownAnd known number P → IsKnownAnd (known ++ clause ∷ []) number P
 still_known known clause number P h = at (slice_get known number) refl h
   where
@@ -107,14 +104,14 @@ still_known known clause number P h = at (slice_get known number) refl h
     at (Some c) is given = subst (λ o. IsSomeAnd o P) (sym (get_more known clause number (slice_get_within known number c is) ∙ is)) given
 
 pub newly_known : (known : List (List ℤ)) (clause : List ℤ) → slice_get (known ++ clause ∷ []) (length known) ≡ Some clause
-newly_known known clause = get_last known clause
+newly_known known clause = get-last known clause
 
 -- a line more of a worked log
 pub at_line_before : (P : LogLine → Type 0) (lines : List LogLine) (line : LogLine) (k : ℕ) → k < length lines → IsSomeAnd (slice_get lines k) P → IsSomeAnd (slice_get (lines ++ line ∷ []) k) P
 at_line_before P lines line k within h = subst (λ o. IsSomeAnd o P) (sym (get_more lines line k within)) h
 
 pub at_line_last : (P : LogLine → Type 0) (lines : List LogLine) (line : LogLine) (k : ℕ) → length lines ≡ k → P line → IsSomeAnd (slice_get (lines ++ line ∷ []) k) P
-at_line_last P lines line k is h = subst (λ o. IsSomeAnd o P) (sym (ap (slice_get (lines ++ line ∷ [])) (sym is) ∙ get_last lines line)) h
+at_line_last P lines line k is h = subst (λ o. IsSomeAnd o P) (sym (ap (slice_get (lines ++ line ∷ [])) (sym is) ∙ get-last lines line)) h
 
 pub IsWorking-push : (cnf : Cnf) (lines : List LogLine) (line : LogLine) → length lines < most → IsWorking cnf lines → IsClause line.clause → Follows cnf.variables (clauses_of cnf lines) line → Teaches (clauses_of cnf lines) line.clause → IsWorking cnf (lines ++ line ∷ [])
 IsWorking-push cnf lines line few working clause follows teaches = record {

@@ -8,7 +8,7 @@ use Rattle.rup_check.specs.Follows.{IsFalse}
 use Rattle.rup_check.specs.Closed.{IsPropagated, IsClosed}
 use Rattle.rup_check.specs.Trail.{IsWithin}
 use Rattle.rup_check.proofs.Cases.{int_cases}
-use Rattle.rup_check.proofs.Values.{unsigned_abs-neg, not_own_negation}
+use Rattle.rup_check.proofs.Values.{not_own_negation}
 use Rattle.search_tables.specs.Trail.{literal_at}
 use Rattle.search_tables.specs.declared.watches.Pair.{Pair}
 use Rattle.search_tables.specs.Entries.{list_of}
@@ -16,6 +16,7 @@ use Rattle.search_tables.specs.Watching.{pair_at, IsProper, IsWatching, IsChange
 use Rattle.sat_search.specs.Guarded.{IsSatisfied, IsWatched, IsGuarded, clause_of, AreGuarded, IsPassing}
 use Rattle.sat_search.proofs.TracingBack.{one_place}
 use Rattle.search_tables.proofs.Entering.{pair_set, pair_set_here, proper_set}
+use Rattle.plain_laws.proofs.Integers.{unsigned_abs-neg}
 
 -- ---- from guarded to closed
 

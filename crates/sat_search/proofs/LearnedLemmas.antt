@@ -4,7 +4,6 @@ use Rattle.std.proofs.lemmas.Bool.{cases_lt, cases_eq}
 use Rattle.std.proofs.lemmas.List.{get_or_default}
 use Rattle.std.proofs.lemmas.List.Elements.{All-nil}
 use Rattle.rup_check.specs.Follows.{IsFalse}
-use Rattle.rup_check.proofs.Values.{unsigned_abs-neg}
 use Rattle.search_tables.specs.Trail.{Trail, literal_at}
 use Rattle.sat_search.specs.Sound.{IsReason, IsKnownAnd, IsSound, last_start}
 use Rattle.search_tables.specs.Marking.{IsSeen, IsLow}
@@ -12,6 +11,7 @@ use Rattle.sat_search.specs.Tracing.{Traces}
 use Rattle.sat_search.specs.Learning.{IsReasoned, IfReasoned, IsOfPlaces, IsAsserting}
 use Rattle.sat_search.proofs.TracingBack.{place_taken, Traces-start}
 use Rattle.sat_search.proofs.Keeping.{IsOfPlaces-push, keep_step}
+use Rattle.plain_laws.proofs.Integers.{unsigned_abs-neg}
 
 -- what is known of a clause, at the clause of that number
 pub at_known : (known : List (List ℤ)) (number : ℕ) (clause : List ℤ) (P : List ℤ → Type 0) → slice_get known number ≡ Some clause → IsKnownAnd known number P → P clause

@@ -11,7 +11,6 @@ use Rattle.rup_check.specs.Follows.{IsFalse, IsUnit, Leads, Follows}
 use Rattle.rup_check.specs.Closed.{Teaches}
 use Rattle.rup_check.specs.Accepted.{clauses_of}
 use Rattle.rup_check.specs.Trail.{IsWithin}
-use Rattle.rup_check.proofs.Values.{unsigned_abs-neg}
 use Rattle.search_tables.specs.declared.watches.Pair.{Pair}
 use Rattle.search_tables.specs.Trail.{Trail, literal_at, variable_at}
 use Rattle.sat_search.specs.Sound.{IsKnownAnd, IsSound, last_start}
@@ -23,8 +22,9 @@ use Rattle.sat_search.proofs.TracingBack.{one_place}
 use Rattle.search_tables.proofs.Entering.{pair_push}
 use Rattle.sat_search.proofs.Guarding.{apart_consistent, closed_from_guarded, guarded_more}
 use Rattle.sat_search.proofs.Visiting.{grown, sound_implied, found_clause}
-use Rattle.sat_search.proofs.LearnedLemmas.{to_known}
+use Rattle.sat_search.proofs.LearnedLemmas.{to_known, last_greatest}
 use Rattle.sat_search.proofs.Backjump.{clause_at, clause_length, not_taken, learned_unit, learned_clause, known_more, newly_known, IsWorking-push, cut, sound_cut, sound_known}
+use Rattle.plain_laws.proofs.Integers.{unsigned_abs-neg}
 
 -- the clauses that were known are guarded as before
 guarded_before : (known : List (List ℤ)) (clause : List ℤ) (pairs : List Pair) (pair : Pair) (done made : List ℤ) (c : ℕ) → length pairs ≡ length known → c < length known → IsGuarded (clause_of known c) (pair_at pairs c) done made → IsGuarded (clause_of (known ++ clause ∷ []) c) (pair_at (pairs ++ pair ∷ []) c) done made
@@ -48,16 +48,10 @@ pub record Learns (cnf : Cnf) (lines : List LogLine) (table : List (List ℤ)) (
   pub leads : Leads (clauses_of cnf lines) (map neg_ℤ line.clause) line.hints
   pub goes : GoesBack starts places back
 
-pub last_behind : (starts : List ℕ) (back : ℕ) → AllPairs (λ one other. one < other) starts → back < length starts → get_or starts back 0 ≤ last_start starts
-last_behind starts back rising there = ⊎_elim
-    (λ (is : back ≡ length starts - 1). subst (λ k. get_or starts k 0 ≤ last_start starts) (sym is) (omega arith))
-    (λ away. let h = rising back (length starts - 1) 0 (omega (arith, away, there)) (omega arith) in omega (arith, h))
-    (cases_eq back (length starts - 1))
-
 -- the first literal was made true at the last level
 pub first_behind : (cnf : Cnf) (lines : List LogLine) (table : List (List ℤ)) (trail : Trail) (starts : List ℕ) (pairs : List Pair) (lists : List (List ℕ)) (head : ℕ) (line : LogLine) (places : List ℕ) (back : ℕ) → Learns cnf lines table trail starts pairs lists head line places back → get_or starts back 0 ≤ get_or places 0 0
 first_behind cnf lines table trail starts pairs lists head line places back learns =
-    omega (arith, learns.asserting.first, last_behind starts back learns.held.sound.rising learns.goes.there)
+    omega (arith, learns.asserting.first, last_greatest starts back learns.held.sound.rising learns.goes.there)
 
 -- the level that it goes back to is closed, and the clause teaches
 learned_teaches : (cnf : Cnf) (lines : List LogLine) (table : List (List ℤ)) (trail : Trail) (starts : List ℕ) (pairs : List Pair) (lists : List (List ℕ)) (head : ℕ) (line : LogLine) (places : List ℕ) (back : ℕ) → Learns cnf lines table trail starts pairs lists head line places back → Teaches (clauses_of cnf lines) line.clause
@@ -182,7 +176,7 @@ adopted cnf lines more_lines table new_table trail new_trail starts new_starts p
 -- its first literal is open at that level
 pub adopted_unit : (known : List (List ℤ)) (trail : Trail) (starts : List ℕ) (back : ℕ) (literals : List ℤ) (hints : List ℕ) → NamesOnce trail.literals → (learned : IsLearned known trail.literals (last_start starts) literals hints) → AllPairs (λ one other. one < other) starts → GoesBack starts learned.places back → IsUnit (take (get_or starts back 0) trail.literals) literals (get_or literals 0 (pos 0))
 adopted_unit known trail starts back literals hints apart learned rising goes =
-    learned_unit trail.literals starts literals learned.places back apart learned.listed learned.asserting.some (omega (arith, learned.asserting.first, last_behind starts back rising goes.there)) goes
+    learned_unit trail.literals starts literals learned.places back apart learned.listed learned.asserting.some (omega (arith, learned.asserting.first, last_greatest starts back rising goes.there)) goes
 
 pub adopted_clause : (cnf : Cnf) (known : List (List ℤ)) (trail : Trail) (from : ℕ) (literals : List ℤ) (hints : List ℕ) → trail.variables ≡ cnf.variables → NamesOnce trail.literals → All (IsWithin trail.variables) trail.literals → IsLearned known trail.literals from literals hints → IsClause literals × All (IsWithin cnf.variables) literals
 adopted_clause cnf known trail from literals hints same apart within learned =

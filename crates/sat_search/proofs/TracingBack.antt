@@ -5,11 +5,11 @@ use Rattle.std.proofs.lemmas.List.{get_or-take, length-take, take_more, get_or_d
 use Rattle.std.proofs.lemmas.List.Elements.{All-contains, All-push, All-weaker, Contains-get_or, Contains-push, Contains-push_cases, Contains-append_left}
 use Rattle.cnf_form.specs.Literals.{NamesOnce}
 use Rattle.rup_check.specs.Follows.{IsFalse, IsUnit, Leads}
-use Rattle.rup_check.proofs.Values.{unsigned_abs-neg}
 use Rattle.search_tables.specs.Trail.{literal_at, variable_at}
 use Rattle.sat_search.specs.Sound.{IsReason, IsKnownAnd}
 use Rattle.search_tables.specs.Marking.{IsSeen}
 use Rattle.sat_search.specs.Tracing.{Traces}
+use Rattle.plain_laws.proofs.Integers.{unsigned_abs-neg}
 
 -- ---- places in a list of literals
 

@@ -12,7 +12,6 @@ use Rattle.rup_check.specs.Follows.{IsFalse}
 use Rattle.rup_check.specs.Accepted.{clauses_of}
 use Rattle.rup_check.specs.Trail.{IsWithin}
 use Rattle.rup_check.proofs.Cases.{int_cases}
-use Rattle.rup_check.proofs.Values.{unsigned_abs-neg}
 use Rattle.search_tables.specs.Entries.{spot_of, list_of}
 use Rattle.sat_search.proofs.Keeping.{neg_twice}
 use Rattle.search_tables.specs.declared.watches.Pair.{Pair}
@@ -24,6 +23,7 @@ use Rattle.sat_search.specs.Held.{IsHeld}
 use Rattle.search_tables.proofs.Placing.{variable_made}
 use Rattle.sat_search.proofs.TracingBack.{taken_place}
 use Rattle.sat_search.proofs.Guarding.{guarded_more, rewatch_guarded}
+use Rattle.plain_laws.proofs.Integers.{unsigned_abs-neg}
 
 taken_in : (literals : List ℤ) (i : ℕ) (m : ℤ) → Contains (take i literals) m → Contains literals m
 taken_in literals i m here = let at = taken_place literals i m here in subst (Contains literals) at.3 (Contains-get_or literals at.0 (pos 0) at.2)

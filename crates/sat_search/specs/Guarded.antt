@@ -29,9 +29,11 @@ clause_of known c = slice_index_or known c []
 
 -- every known clause is satisfied, or watched
 abbrev pub AreGuarded : List (List ℤ) → List Pair → List ℤ → List ℤ → Type 0
-AreGuarded known pairs done made = (c : ℕ) → c < length known → IsGuarded (clause_of known c) (pair_at pairs c) done made
+AreGuarded known pairs done made = (c : ℕ) → c < length known → IsGuarded (clause_of known c) (pair_at pairs c) done
+    made
 
 -- the clauses that watch a literal are satisfied, but for those that stand in its list from i on
 abbrev pub IsPassing : List (List ℤ) → List Pair → List (List ℕ) → List ℤ → ℤ → ℕ → Type 0
 IsPassing known pairs lists made falsified i =
-    (c : ℕ) → IsProper pairs c → ((pair_at pairs c).one ≡ falsified) ⊎ ((pair_at pairs c).other ≡ falsified) → IsSatisfied made (clause_of known c) ⊎ Contains (drop i (list_of lists falsified)) c
+    (c : ℕ) → IsProper pairs c → ((pair_at pairs c).one ≡ falsified) ⊎ ((pair_at pairs c).other ≡ falsified)
+    → IsSatisfied made (clause_of known c) ⊎ Contains (drop i (list_of lists falsified)) c

@@ -10,10 +10,11 @@ use Rattle.search_tables.specs.Watching.{IsWatching}
 use Rattle.sat_search.specs.Guarded.{AreGuarded}
 use Rattle.sat_search.specs.Working.{IsWorking}
 
--- the lines are worked; the table has the clauses that are known; each literal of the trail is a decision or has a reason; the clauses are watched, so that what was
--- true at the end of each level before the last is closed; and of the literals of the trail the first ones, up to `head`,
--- were propagated
-pub record IsHeld (cnf : Cnf) (lines : List LogLine) (table : List (List ℤ)) (trail : Trail) (starts : List ℕ) (pairs : List Pair) (lists : List (List ℕ)) (head : ℕ) : Type 0 where
+-- the lines are worked; the table has the clauses that are known; each literal of the trail is a decision or has a
+-- reason; the clauses are watched, so that what was true at the end of each level before the last is closed; and of
+-- the literals of the trail the first ones, up to `head`, were propagated
+pub record IsHeld (cnf : Cnf) (lines : List LogLine) (table : List (List ℤ)) (trail : Trail) (starts : List ℕ)
+    (pairs : List Pair) (lists : List (List ℕ)) (head : ℕ) : Type 0 where
   pub working : IsWorking cnf lines
   pub stored : table ≡ clauses_of cnf lines
   pub variables : trail.variables ≡ cnf.variables

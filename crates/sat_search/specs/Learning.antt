@@ -1,5 +1,24 @@
 -- What a conflict teaches.
-use Rattle.std.specs.Prelude.{◌≡◌, ℕ, ◌-◌, ◌<◌, ◌≤◌, ℤ, neg_ℤ, List, length, take, map, Bool, Some, None, All, AllPairs, IsSomeAnd, IfSome}
+use Rattle.std.specs.Prelude.{
+  ◌≡◌,
+  ℕ,
+  ◌-◌,
+  ◌<◌,
+  ◌≤◌,
+  ℤ,
+  neg_ℤ,
+  List,
+  length,
+  take,
+  map,
+  Bool,
+  Some,
+  None,
+  All,
+  AllPairs,
+  IsSomeAnd,
+  IfSome,
+}
 use Rattle.std.specs.List.{slice_index_or}
 use Rattle.rup_check.specs.Follows.{Leads}
 use Rattle.search_tables.specs.Trail.{Trail, literal_at}
@@ -10,18 +29,21 @@ use Rattle.search_tables.specs.Marking.{IsSeen}
 abbrev pub IsReasoned : List (List ℤ) → Trail → ℕ → Type 0
 IsReasoned known trail p =
     IsSomeAnd (slice_index_or trail.reasons p None)
-    (λ number. IsKnownAnd known number (λ literals. IsReason literals (literal_at trail.literals p) (take p trail.literals)))
+    (λ number. IsKnownAnd known number (λ literals. IsReason literals (literal_at trail.literals p)
+    (take p trail.literals)))
 
 -- where the literal at the place has a reason, that is one
 abbrev pub IfReasoned : List (List ℤ) → Trail → ℕ → Type 0
 IfReasoned known trail p =
     IfSome (slice_index_or trail.reasons p None)
-    (λ number. IsKnownAnd known number (λ literals. IsReason literals (literal_at trail.literals p) (take p trail.literals)))
+    (λ number. IsKnownAnd known number (λ literals. IsReason literals (literal_at trail.literals p)
+    (take p trail.literals)))
 
 -- the clause of this number made the literal at the place true, and all its variables are marked
 pub record IsMarkedReason (known : List (List ℤ)) (trail : Trail) (p : ℕ) (seen : List Bool) (number : ℕ) : Type 0 where
   pub is : slice_index_or trail.reasons p None ≡ Some number
-  pub marked : IsKnownAnd known number (λ literals. IsReason literals (literal_at trail.literals p) (take p trail.literals) × All (IsSeen seen) literals)
+  pub marked : IsKnownAnd known number (λ literals. IsReason literals (literal_at trail.literals p)
+      (take p trail.literals) × All (IsSeen seen) literals)
 
 -- a clause of the negated literals at some places of a trail, the last place first, none of them before `low`
 pub record IsOfPlaces (literals : List ℤ) (low : ℕ) (clause : List ℤ) (places : List ℕ) : Type 0 where
@@ -38,14 +60,15 @@ pub record IsAsserting (from : ℕ) (places : List ℕ) : Type 0 where
 
 -- a clause that a conflict teaches: it has one literal of the level that begins at `from`, its first one; and the hints
 -- lead on from its negated literals
-pub record IsLearned (known : List (List ℤ)) (literals : List ℤ) (from : ℕ) (clause : List ℤ) (hints : List ℕ) : Type 0 where
-  pub places : List ℕ
-  pub listed : IsOfPlaces literals 0 clause places
-  pub asserting : IsAsserting from places
-  pub leads : Leads known (map neg_ℤ clause) hints
+pub record IsLearned (known : List (List ℤ)) (literals : List ℤ) (from : ℕ) (clause : List ℤ) (hints : List ℕ) : Type 0
+  where
+    pub places : List ℕ
+    pub listed : IsOfPlaces literals 0 clause places
+    pub asserting : IsAsserting from places
+    pub leads : Leads known (map neg_ℤ clause) hints
 
--- where the search goes back to: all literals of the clause but the first are false before that level, and not before an
--- earlier one
+-- where the search goes back to: all literals of the clause but the first are false before that level, and not before
+-- an earlier one
 pub record GoesBack (starts : List ℕ) (places : List ℕ) (back : ℕ) : Type 0 where
   pub there : back < length starts
   pub others : (k : ℕ) → 0 < k → k < length places → slice_index_or places k 0 < slice_index_or starts back 0

@@ -1,5 +1,23 @@
 -- Why the literals of a trail are true.
-use Rattle.std.specs.Prelude.{◌≡◌, ℕ, ◌-◌, ◌<◌, ◌≢◌, ℤ, neg_ℤ, List, length, take, None, All, AllPairs, Contains, IsSomeAnd, MatchOption, slice_get}
+use Rattle.std.specs.Prelude.{
+  ◌≡◌,
+  ℕ,
+  ◌-◌,
+  ◌<◌,
+  ◌≢◌,
+  ℤ,
+  neg_ℤ,
+  List,
+  length,
+  take,
+  None,
+  All,
+  AllPairs,
+  Contains,
+  IsSomeAnd,
+  MatchOption,
+  slice_get,
+}
 use Rattle.std.specs.List.{slice_index_or}
 use Rattle.cnf_form.specs.Literals.{NamesOnce}
 use Rattle.rup_check.specs.Trail.{IsWithin}
@@ -18,7 +36,8 @@ IsKnownAnd known number P = IsSomeAnd (slice_get known number) P
 abbrev pub IsSupported : List (List ℤ) → Trail → List ℕ → ℕ → Type 0
 IsSupported known trail starts p =
     MatchOption (slice_index_or trail.reasons p None) (Contains starts p)
-    (λ number. IsKnownAnd known number (λ literals. IsReason literals (literal_at trail.literals p) (take p trail.literals)))
+    (λ number. IsKnownAnd known number (λ literals. IsReason literals (literal_at trail.literals p)
+    (take p trail.literals)))
 
 -- a trail over the known clauses, with the places of its decisions
 pub record IsSound (known : List (List ℤ)) (trail : Trail) (starts : List ℕ) : Type 0 where

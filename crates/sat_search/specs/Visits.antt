@@ -25,14 +25,16 @@ abbrev pub watchers : Search → ℤ → List ℕ
 watchers s l = list_of s.watches.lists.items l
 
 abbrev pub Passes : Cnf → Search → ℤ → ℕ → Type 0
-Passes cnf s falsified i = IsPassing (known_by cnf s) s.watches.pairs.items s.watches.lists.items s.trail.literals falsified i
+Passes cnf s falsified i = IsPassing (known_by cnf s) s.watches.pairs.items s.watches.lists.items s.trail.literals
+    falsified i
 
 -- the clause at a place in the list of a literal that became false, and the other literal that it watches
 pub record IsVisited (cnf : Cnf) (s : Search) (falsified : ℤ) (at number : ℕ) (other : ℤ) : Type 0 where
   pub entry : number ≡ slice_index_or (watchers s falsified) at 0
   pub known : number < length (known_by cnf s)
   pub proper : IsProper s.watches.pairs.items number
-  pub stays : (other ≡ (pair_at s.watches.pairs.items number).one) ⊎ (other ≡ (pair_at s.watches.pairs.items number).other)
+  pub stays : (other ≡ (pair_at s.watches.pairs.items number).one)
+      ⊎ (other ≡ (pair_at s.watches.pairs.items number).other)
   pub away : other ≢ falsified
   pub within : IsWithin s.trail.variables other
   pub falsified_within : IsWithin cnf.variables falsified
@@ -51,6 +53,8 @@ IsConflict cnf s number = IsKnownAnd (known_by cnf s) number (λ literals. IsFal
 
 -- the clause that was visited is satisfied, or watches another literal, or is false
 abbrev pub VisitSays : Cnf → Search → Search → ℤ → ℕ → Visit → Type 0
-VisitSays cnf old new falsified at Stays = Passes cnf new falsified (at + 1) × (length (watchers new falsified) ≡ length (watchers old falsified))
-VisitSays cnf old new falsified at Moved = Passes cnf new falsified at × (length (watchers new falsified) + 1 ≡ length (watchers old falsified))
+VisitSays cnf old new falsified at Stays = Passes cnf new falsified (at + 1) × (length (watchers new falsified)
+    ≡ length (watchers old falsified))
+VisitSays cnf old new falsified at Moved = Passes cnf new falsified at × (length (watchers new falsified) + 1
+    ≡ length (watchers old falsified))
 VisitSays cnf old new falsified at (Conflict number) = IsConflict cnf new number

@@ -1,6 +1,24 @@
 //! What a conflict teaches.
 
-ghost use Rattle.std.specs.Prelude.{◌≡◌, ◌+◌, ◌<◌, ◌≤◌, ℕ, ℤ, List, [], length, take, map, reverse, neg_ℤ, IfOk, IfSome, OnOk, All};
+ghost use Rattle.std.specs.Prelude.{
+  ◌≡◌,
+  ◌+◌,
+  ◌<◌,
+  ◌≤◌,
+  ℕ,
+  ℤ,
+  List,
+  [],
+  length,
+  take,
+  map,
+  reverse,
+  neg_ℤ,
+  IfOk,
+  IfSome,
+  OnOk,
+  All,
+};
 ghost use Rattle.cnf_form.specs.Literals.{most, NamesOnce};
 ghost use Rattle.rup_check.specs.Follows.{IsFalse, Leads};
 ghost use Rattle.rup_check.specs.Trail.{IsWithin};
@@ -30,7 +48,9 @@ fn trace_at(
     requires hinted { 0 < length hints.old.items }
     ensures more { OnOk result (MarksMore trail.now.literals marks.old marks.new) }
     ensures hinted { OnOk result (0 < length hints.new.items) }
-    ensures traced { OnOk result ((kept : List ℤ) → Traces known.now trail.now.literals (place + 1) marks.old.seen.items kept (reverse hints.old.items) → Traces known.now trail.now.literals place marks.new.seen.items kept (reverse hints.new.items)) }
+    ensures traced { OnOk result ((kept : List ℤ) → Traces known.now trail.now.literals (place + 1)
+        marks.old.seen.items kept (reverse hints.old.items) → Traces known.now trail.now.literals place
+        marks.new.seen.items kept (reverse hints.new.items)) }
 {
     if marks.is_seen(trail.literal(place)) {
         if let Some(number) = trail.reason(place) {
@@ -51,20 +71,23 @@ fn trace_level(
     requires known { All (All (IsWithin trail.now.variables)) known.now }
     requires within { All (IsWithin trail.now.variables) trail.now.literals }
     requires apart { NamesOnce trail.now.literals }
-    requires reasoned { (p : ℕ) → marks.old.from < p → p < length trail.now.literals → IsReasoned known.now trail.now p }
+    requires reasoned { (p : ℕ) → marks.old.from < p → p < length trail.now.literals → IsReasoned known.now trail.now p
+        }
     requires sized { length marks.old.seen.items ≡ trail.now.variables + 1 }
     requires low { IsLow trail.now.literals marks.old.seen.items marks.old.from marks.old.low }
     requires above { marks.old.from ≤ marks.old.low }
     requires below { marks.old.low < length trail.now.literals }
     requires hinted { 0 < length hints.old.items }
-    requires traced { Traces known.now trail.now.literals (length trail.now.literals) marks.old.seen.items [] (reverse hints.old.items) }
+    requires traced { Traces known.now trail.now.literals (length trail.now.literals) marks.old.seen.items []
+        (reverse hints.old.items) }
     ensures sized { OnOk result (length marks.new.seen.items ≡ trail.now.variables + 1) }
     ensures from { OnOk result (marks.new.from ≡ marks.old.from) }
     ensures low { OnOk result (IsLow trail.now.literals marks.new.seen.items marks.new.from marks.new.low) }
     ensures above { OnOk result (marks.old.from ≤ marks.new.low) }
     ensures below { OnOk result (marks.new.low < length trail.now.literals) }
     ensures hinted { OnOk result (0 < length hints.new.items) }
-    ensures traced { OnOk result (Traces known.now trail.now.literals (marks.new.low + 1) marks.new.seen.items [] (reverse hints.new.items)) }
+    ensures traced { OnOk result (Traces known.now trail.now.literals (marks.new.low + 1) marks.new.seen.items []
+        (reverse hints.new.items)) }
 {
     let mut place = trail.len();
     while place > marks.low + 1 {
@@ -89,7 +112,8 @@ fn trace_down(
     requires reasoned { (p : ℕ) → p < place → IsReasoned known.now trail.now p }
     requires sized { length marks.old.seen.items ≡ trail.now.variables + 1 }
     requires hinted { 0 < length hints.old.items }
-    ensures { OnOk result ((kept : List ℤ) → Traces known.now trail.now.literals place marks.old.seen.items kept (reverse hints.old.items) → Leads known.now kept (reverse hints.new.items)) }
+    ensures { OnOk result ((kept : List ℤ) → Traces known.now trail.now.literals place marks.old.seen.items kept
+        (reverse hints.old.items) → Leads known.now kept (reverse hints.new.items)) }
 {
     let mut place = place;
     while place > 0 {
@@ -115,7 +139,8 @@ fn marked_reason(known: &Clauses, trail: &Trail, marks: &Marks, place: usize) ->
     None
 }
 
-// Keeps the negation of the literal at the place, where it is marked; or resolves on it, where its reason is marked too.
+// Keeps the negation of the literal at the place, where it is marked; or resolves on it, where its reason is marked
+// too.
 fn keep_at(
     known: &Clauses,
     trail: &Trail,
@@ -135,8 +160,12 @@ fn keep_at(
     requires early { place < marks.now.low }
     requires hinted { 0 < length hints.old.items }
     ensures hinted { OnOk result (0 < length hints.new.items) }
-    ensures places { OnOk result ((places : List ℕ) → IsOfPlaces trail.now.literals (place + 1) literals.old.items places → IsAsserting marks.now.from places → (more : List ℕ) × IsOfPlaces trail.now.literals place literals.new.items more × IsAsserting marks.now.from more) }
-    ensures traced { OnOk result (Traces known.now trail.now.literals (place + 1) marks.now.seen.items (map neg_ℤ literals.old.items) (reverse hints.old.items) → Traces known.now trail.now.literals place marks.now.seen.items (map neg_ℤ literals.new.items) (reverse hints.new.items)) }
+    ensures places { OnOk result ((places : List ℕ) → IsOfPlaces trail.now.literals (place + 1) literals.old.items
+        places → IsAsserting marks.now.from places → (more : List ℕ) × IsOfPlaces trail.now.literals place
+        literals.new.items more × IsAsserting marks.now.from more) }
+    ensures traced { OnOk result (Traces known.now trail.now.literals (place + 1) marks.now.seen.items
+        (map neg_ℤ literals.old.items) (reverse hints.old.items) → Traces known.now trail.now.literals place
+        marks.now.seen.items (map neg_ℤ literals.new.items) (reverse hints.new.items)) }
 {
     let literal = trail.literal(place);
     if !marks.is_seen(literal) {
@@ -150,8 +179,8 @@ fn keep_at(
     Ok(())
 }
 
-// Keeps the negation of every marked literal from `base` on and before the least marked place of the level, but for those
-// that the others make superfluous.
+// Keeps the negation of every marked literal from `base` on and before the least marked place of the level, but for
+// those that the others make superfluous.
 fn keep_marked(
     known: &Clauses,
     trail: &Trail,
@@ -171,8 +200,12 @@ fn keep_marked(
     requires base { base ≤ marks.now.low }
     requires hinted { 0 < length hints.old.items }
     ensures hinted { OnOk result (0 < length hints.new.items) }
-    ensures places { OnOk result ((places : List ℕ) → IsOfPlaces trail.now.literals marks.now.low literals.old.items places → IsAsserting marks.now.from places → (more : List ℕ) × IsOfPlaces trail.now.literals 0 literals.new.items more × IsAsserting marks.now.from more) }
-    ensures traced { OnOk result (Traces known.now trail.now.literals marks.now.low marks.now.seen.items (map neg_ℤ literals.old.items) (reverse hints.old.items) → Traces known.now trail.now.literals base marks.now.seen.items (map neg_ℤ literals.new.items) (reverse hints.new.items)) }
+    ensures places { OnOk result ((places : List ℕ) → IsOfPlaces trail.now.literals marks.now.low literals.old.items
+        places → IsAsserting marks.now.from places → (more : List ℕ) × IsOfPlaces trail.now.literals 0
+        literals.new.items more × IsAsserting marks.now.from more) }
+    ensures traced { OnOk result (Traces known.now trail.now.literals marks.now.low marks.now.seen.items
+        (map neg_ℤ literals.old.items) (reverse hints.old.items) → Traces known.now trail.now.literals base
+        marks.now.seen.items (map neg_ℤ literals.new.items) (reverse hints.new.items)) }
 {
     let mut place = marks.low;
     while place > base {
@@ -191,7 +224,8 @@ fn in_order(found: Vec<u32>) -> Vec<u32>
     hints
 }
 
-/// A clause that a conflict teaches, and the hints from which it follows; and the variables that were marked on the way.
+/// A clause that a conflict teaches, and the hints from which it follows; and the variables that were marked on the
+/// way.
 #[derive(Debug, Drop)]
 pub(crate) struct Learned {
     pub literals: Vec<i32>,
@@ -199,8 +233,8 @@ pub(crate) struct Learned {
     pub seen: Vec<bool>,
 }
 
-/// What the conflict teaches, a known clause that is false, where there are decisions: the clause has one literal of the
-/// last level, its first one, and after it the others, the latest first.
+/// What the conflict teaches, a known clause that is false, where there are decisions: the clause has one literal of
+/// the last level, its first one, and after it the others, the latest first.
 pub(crate) fn analyze(
     alloc: Global,
     known: &Clauses,
@@ -214,8 +248,10 @@ pub(crate) fn analyze(
     requires known { All (All (IsWithin trail.now.variables)) known.now }
     requires sound { IsSound known.now trail.now starts.now }
     requires decided { 0 < length starts.now }
-    requires conflict { IsKnownAnd known.now conflict (λ literals. IsFalse trail.now.literals literals × (¬ IsFalse (take (last_start starts.now) trail.now.literals) literals)) }
-    ensures { IfOk result (λ learned. IsLearned known.now trail.now.literals (last_start starts.now) learned.literals.items learned.hints.items) }
+    requires conflict { IsKnownAnd known.now conflict (λ literals. IsFalse trail.now.literals literals
+        × (¬ IsFalse (take (last_start starts.now) trail.now.literals) literals)) }
+    ensures { IfOk result (λ learned. IsLearned known.now trail.now.literals (last_start starts.now)
+        learned.literals.items learned.hints.items) }
 {
     let mut marks = Marks::new(alloc, trail, variables, starts[starts.len() - 1])?;
     let mut hints = Vec::new(alloc);

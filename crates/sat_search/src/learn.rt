@@ -1,6 +1,20 @@
 //! A search learns from a conflict.
 
-ghost use Rattle.std.specs.Prelude.{◌≡◌, ◌+◌, ◌-◌, ◌<◌, ◌≤◌, ℕ, length, All, OnOk, IfSome, MatchOption, slice_index_or, List};
+ghost use Rattle.std.specs.Prelude.{
+  ◌≡◌,
+  ◌+◌,
+  ◌-◌,
+  ◌<◌,
+  ◌≤◌,
+  ℕ,
+  length,
+  All,
+  OnOk,
+  IfSome,
+  MatchOption,
+  slice_index_or,
+  List,
+};
 ghost use Rattle.cnf_form.specs.Literals.{most, NamesOnce};
 ghost use Rattle.rup_check.specs.Trail.{IsWithin};
 ghost use Rattle.sat_search.specs.Sound.{last_start};
@@ -15,7 +29,8 @@ impl Search {
     ghost use Rattle.sat_search.specs.Learning.{IsOfPlaces, IsAsserting, IsLearned, GoesBack};
     ghost use Rattle.sat_search.specs.Visits.{Holds, IsConflict, known_by};
 
-    /// Learns a clause from a conflict, goes back to the level at which it is unit, and makes its first literal true there.
+    /// Learns a clause from a conflict, goes back to the level at which it is unit, and makes its first literal true
+    /// there.
     pub(crate) fn learn(
         &mut self,
         alloc: Global,
@@ -48,8 +63,10 @@ impl Search {
         requires decided { 0 < length self.now.starts.items }
         requires within { All (IsWithin self.now.trail.variables) literals.now }
         requires apart { NamesOnce self.now.trail.literals }
-        requires asserting { (places : List ℕ) × IsOfPlaces self.now.trail.literals 0 literals.now places × IsAsserting (last_start self.now.starts.items) places }
-        ensures { (places : List ℕ) → IsOfPlaces self.now.trail.literals 0 literals.now places → IsAsserting (last_start self.now.starts.items) places → GoesBack self.now.starts.items places result }
+        requires asserting { (places : List ℕ) × IsOfPlaces self.now.trail.literals 0 literals.now places
+            × IsAsserting (last_start self.now.starts.items) places }
+        ensures { (places : List ℕ) → IsOfPlaces self.now.trail.literals 0 literals.now places
+            → IsAsserting (last_start self.now.starts.items) places → GoesBack self.now.starts.items places result }
     {
         if literals.len() < 2 {
             return 0;
@@ -66,8 +83,10 @@ impl Search {
     ) -> Result<(), AllocError>
         requires held { Holds cnf.now self.old }
         requires few { length self.old.lines.items < most }
-        requires learned { IsLearned (known_by cnf.now self.old) self.old.trail.literals (last_start self.old.starts.items) learned.literals.items learned.hints.items }
-        requires back { (places : List ℕ) → IsOfPlaces self.old.trail.literals 0 learned.literals.items places → IsAsserting (last_start self.old.starts.items) places → GoesBack self.old.starts.items places back }
+        requires learned { IsLearned (known_by cnf.now self.old) self.old.trail.literals
+            (last_start self.old.starts.items) learned.literals.items learned.hints.items }
+        requires back { (places : List ℕ) → IsOfPlaces self.old.trail.literals 0 learned.literals.items places
+            → IsAsserting (last_start self.old.starts.items) places → GoesBack self.old.starts.items places back }
         ensures held { OnOk result (Holds cnf.now self.new) }
         ensures counted { OnOk result (length self.new.lines.items ≡ length self.old.lines.items + 1) }
     {

@@ -1,6 +1,27 @@
 //! Unit propagation over the state of a search.
 
-ghost use Rattle.std.specs.Prelude.{◌≡◌, ◌≢◌, ◌+◌, ◌<◌, ◌≤◌, [], ◌∷◌, ◌++◌, take, length, neg_ℤ, MatchBool, All, Contains, IfOk, OnOk, IfSome, MatchOption, IsTrue, false};
+ghost use Rattle.std.specs.Prelude.{
+  ◌≡◌,
+  ◌≢◌,
+  ◌+◌,
+  ◌<◌,
+  ◌≤◌,
+  [],
+  ◌∷◌,
+  ◌++◌,
+  take,
+  length,
+  neg_ℤ,
+  MatchBool,
+  All,
+  Contains,
+  IfOk,
+  OnOk,
+  IfSome,
+  MatchOption,
+  IsTrue,
+  false,
+};
 ghost use Rattle.rup_check.specs.Trail.{IsWithin};
 ghost use Rattle.rup_check.specs.Follows.{IsMade};
 
@@ -25,7 +46,16 @@ impl Search {
     ghost use Rattle.search_tables.specs.Trail.{literal_at};
     ghost use Rattle.sat_search.specs.Sound.{IsKnownAnd};
     ghost use Rattle.sat_search.specs.Guarded.{AreGuarded};
-    ghost use Rattle.sat_search.specs.Visits.{Holds, Extends, Passes, IsVisited, IsConflict, VisitSays, known_by, watchers};
+    ghost use Rattle.sat_search.specs.Visits.{
+      Holds,
+      Extends,
+      Passes,
+      IsVisited,
+      IsConflict,
+      VisitSays,
+      known_by,
+      watchers,
+    };
 
     /// Visits a clause that watches a literal that became false.
     fn visit(&mut self, cnf: &Cnf, falsified: i32, at: usize) -> Result<Visit, AllocError>
@@ -87,11 +117,13 @@ impl Search {
     fn imply(&mut self, cnf: &Cnf, number: u32, literal: i32) -> Result<bool, AllocError>
         requires held { Holds cnf.now self.old }
         requires within { IsWithin self.old.trail.variables literal }
-        requires unit { IsKnownAnd (known_by cnf.now self.old) number (λ clause. Contains clause literal × All (λ m. m ≢ literal → IsMade self.old.trail.literals (neg_ℤ m)) clause) }
+        requires unit { IsKnownAnd (known_by cnf.now self.old) number (λ clause. Contains clause literal
+            × All (λ m. m ≢ literal → IsMade self.old.trail.literals (neg_ℤ m)) clause) }
         requires not_true { ¬ IsMade self.old.trail.literals literal }
         ensures held { OnOk result (Holds cnf.now self.new) }
         ensures same { OnOk result (record self.old { trail = self.new.trail } ≡ self.new) }
-        ensures says { IfOk result (λ yes. MatchBool yes (self.new.trail.literals ≡ self.old.trail.literals ++ literal ∷ []) ((self.new.trail ≡ self.old.trail) × IsConflict cnf.now self.new number)) }
+        ensures says { IfOk result (λ yes. MatchBool yes (self.new.trail.literals ≡ self.old.trail.literals ++ literal
+            ∷ []) ((self.new.trail ≡ self.old.trail) × IsConflict cnf.now self.new number)) }
     {
         if self.trail.is_false(literal) {
             return Ok(false);
@@ -107,7 +139,9 @@ impl Search {
         requires falsified { falsified ≡ neg_ℤ (literal_at self.old.trail.literals self.old.head) }
         ensures held { OnOk result (Holds cnf.now self.new) }
         ensures extends { OnOk result (Extends self.old self.new) }
-        ensures none { IfOk result (λ conflict. MatchOption conflict (AreGuarded (known_by cnf.now self.new) self.new.watches.pairs.items (take (self.new.head + 1) self.new.trail.literals) self.new.trail.literals) (λ number. IsConflict cnf.now self.new number)) }
+        ensures none { IfOk result (λ conflict. MatchOption conflict (AreGuarded (known_by cnf.now self.new)
+            self.new.watches.pairs.items (take (self.new.head + 1) self.new.trail.literals) self.new.trail.literals)
+            (λ number. IsConflict cnf.now self.new number)) }
     {
         let mut at = 0;
         while at < self.watches.count(falsified) {
@@ -120,14 +154,16 @@ impl Search {
         Ok(None)
     }
 
-    /// Makes every literal true that a clause has alone beside false ones, until there is none; or some clause is false.
+    /// Makes every literal true that a clause has alone beside false ones, until there is none; or some clause is
+    /// false.
     pub(crate) fn propagate(&mut self, cnf: &Cnf) -> Result<Option<u32>, AllocError>
         requires { Holds cnf.now self.old }
         ensures held { OnOk result (Holds cnf.now self.new) }
         ensures lines { OnOk result (self.new.lines ≡ self.old.lines) }
         ensures starts { OnOk result (self.new.starts ≡ self.old.starts) }
         ensures longer { OnOk result (length self.old.trail.literals ≤ length self.new.trail.literals) }
-        ensures none { IfOk result (λ conflict. MatchOption conflict (self.new.head ≡ length self.new.trail.literals) (λ number. IsConflict cnf.now self.new number)) }
+        ensures none { IfOk result (λ conflict. MatchOption conflict (self.new.head ≡ length self.new.trail.literals)
+            (λ number. IsConflict cnf.now self.new number)) }
     {
         while self.head < self.trail.len() {
             let falsified = negated(self.trail.literal(self.head));
@@ -146,7 +182,8 @@ fn free_literal(trail: &Trail, clause: &[i32], other: i32) -> Option<i32>
     ensures named { IfSome result (λ l. Contains clause.now l) }
     ensures differ { IfSome result (λ l. l ≢ other) }
     ensures free { IfSome result (λ l. ¬ IsMade trail.now.literals (neg_ℤ l)) }
-    ensures none { MatchOption result (All (λ l. l ≢ other → IsMade trail.now.literals (neg_ℤ l)) clause.now) (λ _. Unit {0}) }
+    ensures none { MatchOption result (All (λ l. l ≢ other → IsMade trail.now.literals (neg_ℤ l)) clause.now)
+        (λ _. Unit {0}) }
 {
     for literal in clause {
         if is_free(trail, *literal, other) {

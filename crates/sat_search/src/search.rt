@@ -1,6 +1,24 @@
 //! The state of a search, and its decisions.
 
-ghost use Rattle.std.specs.Prelude.{◌≡◌, ◌⊎◌, ◌+◌, ◌≤◌, [], length, neg_ℤ, MatchBool, IfOk, OnOk, IfSome, MatchOption, Some, IsTrue, false, slice_get, unsigned_abs};
+ghost use Rattle.std.specs.Prelude.{
+  ◌≡◌,
+  ◌⊎◌,
+  ◌+◌,
+  ◌≤◌,
+  [],
+  length,
+  neg_ℤ,
+  MatchBool,
+  IfOk,
+  OnOk,
+  IfSome,
+  MatchOption,
+  Some,
+  IsTrue,
+  false,
+  slice_get,
+  unsigned_abs,
+};
 ghost use Rattle.cnf_form.specs.Literals.{most, IsClause, NamesUpTo};
 ghost use Rattle.rup_check.specs.Trail.{IsWithin};
 ghost use Rattle.rup_check.specs.Follows.{IsMade};
@@ -11,8 +29,9 @@ use cnf_form::{Cnf, LogLine};
 use search_tables::{Clauses, Order, Trail, Watches};
 use std::alloc::{AllocError, Global};
 
-/// The learned lines; all clauses that are known; the literals that are true; where each level begins, with its decision; the watched literals; and
-/// how many of the true literals were propagated. Which variables to decide first is a matter of speed alone.
+/// The learned lines; all clauses that are known; the literals that are true; where each level begins, with its
+/// decision; the watched literals; and how many of the true literals were propagated. Which variables to decide first
+/// is a matter of speed alone.
 #[derive(Drop)]
 pub(crate) struct Search {
     pub lines: Vec<LogLine>,
@@ -35,7 +54,11 @@ impl Search {
         ensures known { IfOk result (λ s. s.known ≡ cnf.now.clauses) }
         ensures starts { IfOk result (λ s. s.starts.items ≡ []) }
         ensures head { IfOk result (λ s. s.head ≡ 0) }
-        ensures trail { IfOk result (λ s. s.trail ≡ record { variables = cnf.now.variables; literals = []; reasons = [] }) }
+        ensures trail { IfOk result (λ s. s.trail ≡ record {
+          variables = cnf.now.variables;
+          literals = [];
+          reasons = [];
+        }) }
         ensures pairs { IfOk result (λ s. s.watches.pairs.items ≡ []) }
         ensures watching { IfOk result (λ s. IsWatching cnf.now.variables s.watches.pairs.items s.watches.lists.items) }
     {
@@ -52,12 +75,14 @@ impl Search {
 
     // Takes a clause of the formula in; false where it is false already.
     fn load(&mut self, cnf: &Cnf, number: u32, literals: &[i32]) -> Result<bool, AllocError>
-        requires loading { IsLoading cnf.now self.old.trail self.old.watches.pairs.items self.old.watches.lists.items number }
+        requires loading { IsLoading cnf.now self.old.trail self.old.watches.pairs.items self.old.watches.lists.items
+            number }
         requires clause { slice_get cnf.now.clauses number ≡ Some literals.now }
         requires is_clause { IsClause literals.now }
         requires named { NamesUpTo cnf.now.variables literals.now }
         ensures same { OnOk result (record self.old { trail = self.new.trail; watches = self.new.watches } ≡ self.new) }
-        ensures says { IfOk result (λ yes. MatchBool yes (IsLoading cnf.now self.new.trail self.new.watches.pairs.items self.new.watches.lists.items (number + 1)) (IsRefuted cnf.now.clauses cnf.now self.new.trail number)) }
+        ensures says { IfOk result (λ yes. MatchBool yes (IsLoading cnf.now self.new.trail self.new.watches.pairs.items
+            self.new.watches.lists.items (number + 1)) (IsRefuted cnf.now.clauses cnf.now self.new.trail number)) }
     {
         if literals.is_empty() {
             return Ok(false);
@@ -79,7 +104,8 @@ impl Search {
 
     /// Takes the clauses of the formula in; some clause, where one is false already.
     pub(crate) fn load_all(&mut self, cnf: &Cnf) -> Result<Option<u32>, AllocError>
-        requires loading { IsLoading cnf.now self.old.trail self.old.watches.pairs.items self.old.watches.lists.items 0 }
+        requires loading { IsLoading cnf.now self.old.trail self.old.watches.pairs.items self.old.watches.lists.items 0
+            }
         requires lines { self.old.lines.items ≡ [] }
         requires known { self.old.known ≡ cnf.now.clauses }
         requires starts { self.old.starts.items ≡ [] }
@@ -87,7 +113,8 @@ impl Search {
         ensures lines { OnOk result (self.new.lines.items ≡ []) }
         ensures known { OnOk result (self.new.known ≡ cnf.now.clauses) }
         ensures starts { OnOk result (self.new.starts.items ≡ []) }
-        ensures none { IfOk result (λ conflict. MatchOption conflict (Holds cnf.now self.new) (λ number. IsRefuted cnf.now.clauses cnf.now self.new.trail number)) }
+        ensures none { IfOk result (λ conflict. MatchOption conflict (Holds cnf.now self.new)
+            (λ number. IsRefuted cnf.now.clauses cnf.now self.new.trail number)) }
     {
         for (i, clause) in cnf.clauses().iter().enumerate() {
             if !self.load(cnf, i as u32, clause.literals())? {
@@ -118,7 +145,8 @@ impl Search {
         requires { Holds cnf.now self.old }
         ensures held { OnOk result (Holds cnf.now self.new) }
         ensures lines { OnOk result (self.new.lines ≡ self.old.lines) }
-        ensures none { IfOk result (λ conflict. MatchOption conflict ((self.new.head ≡ length self.new.trail.literals) × IsTotal cnf.now.variables self.new.trail.literals) (λ number. IsConflict cnf.now self.new number)) }
+        ensures none { IfOk result (λ conflict. MatchOption conflict ((self.new.head ≡ length self.new.trail.literals)
+            × IsTotal cnf.now.variables self.new.trail.literals) (λ number. IsConflict cnf.now self.new number)) }
     {
         'levels: loop {
             if let Some(number) = self.propagate(cnf)? {

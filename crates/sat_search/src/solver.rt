@@ -19,9 +19,9 @@ use sqlite_items::Items;
 use std::alloc::{AllocError, Global};
 use wc_outside::NoMemory;
 
-/// Searches for an assignment that satisfies the formula, and learns at most `limit` clauses. The answer is an assignment
-/// that satisfies it, a log that is accepted, or a log that is worked at the limit: it has exactly `limit` lines, and each
-/// of them follows and teaches.
+/// Searches for an assignment that satisfies the formula, and learns at most `limit` clauses. The answer is an
+/// assignment that satisfies it, a log that is accepted, or a log that is worked at the limit: it has exactly `limit`
+/// lines, and each of them follows and teaches.
 ///
 /// It never gives up where 3 to the power of the number of variables is at most the limit, nor where unit propagation
 /// alone refutes the formula.

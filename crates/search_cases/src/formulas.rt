@@ -68,8 +68,8 @@ fn isnt(variable: u32) -> i32
     -(variable as i32)
 }
 
-/// The first variable is true, each follows from the one before it, and the last one is false. First come the steps from
-/// the odd variables, then those from the even ones. There are at most a million variables.
+/// The first variable is true, each follows from the one before it, and the last one is false. First come the steps
+/// from the odd variables, then those from the even ones. There are at most a million variables.
 pub(crate) fn chain(alloc: Global, variables: u32) -> Result<Cnf, Wrong> {
     if variables > 1_000_000 {
         return Err(Wrong::NoCase);

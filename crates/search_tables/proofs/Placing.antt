@@ -4,8 +4,8 @@ use Rattle.std.proofs.lemmas.Bool.{cases_lt}
 use Rattle.std.proofs.lemmas.List.{get_or_append_left, get_or_push, get_or-take, length-take}
 use Rattle.std.proofs.lemmas.List.Elements.{All-push, All-take, Contains-get_or}
 use Rattle.rup_check.specs.Trail.{IsWithin}
-use Rattle.rup_check.proofs.Values.{same_variable}
 use Rattle.search_tables.specs.Trail.{literal_at, variable_at, Places}
+use Rattle.plain_laws.proofs.Integers.{same_magnitude}
 
 -- a literal of the variable of l is l or its negation
 pub variable_made : (literals : List ℤ) (l : ℤ) (p : ℕ) → p < length literals → variable_at literals p ≡ unsigned_abs l → ¬ Contains literals l → ¬ ¬ Contains literals (neg_ℤ l)
@@ -13,7 +13,7 @@ variable_made literals l p within same not_true not_false =
     ⊎_elim
     (λ (is : l ≡ literal_at literals p). not_true (subst (Contains literals) (sym is) (Contains-get_or literals p (pos 0) within)))
     (λ (is : neg_ℤ l ≡ literal_at literals p). not_false (subst (Contains literals) (sym is) (Contains-get_or literals p (pos 0) within)))
-    (same_variable l (literal_at literals p) (sym same))
+    (same_magnitude l (literal_at literals p) (sym same))
 
 -- one more literal is made true, of a new variable
 pub Places-push : (places : List ℕ) (literals : List ℤ) (l : ℤ) (at : ℕ) → Places places literals → IsWithin (length places) l → ¬ Contains literals l → ¬ Contains literals (neg_ℤ l) → at + 1 ≡ unsigned_abs l → Places (set places at (length literals)) (literals ++ l ∷ [])

@@ -27,8 +27,8 @@ pub record IsWatching (variables : ℕ) (pairs : List Pair) (lists : List (List 
   pub listed_one : (c : ℕ) → IsProper pairs c → Contains (list_of lists (pair_at pairs c).one) c
   pub listed_other : (c : ℕ) → IsProper pairs c → Contains (list_of lists (pair_at pairs c).other) c
 
--- a pair that clause n can watch in place of its own, which has the literal that became false: one of its literals is new,
--- and the other stays
+-- a pair that clause n can watch in place of its own, which has the literal that became false: one of its literals is
+-- new, and the other stays
 pub record IsChange (pairs : List Pair) (n : ℕ) (falsified : ℤ) (pair : Pair) : Type 0 where
   pub differ : pair.one ≢ pair.other
   pub one : pair.one ≢ falsified

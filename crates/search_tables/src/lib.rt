@@ -1,5 +1,5 @@
-//! The tables of a search for an assignment: the literals that it made true, the literals that clauses watch, the variables
-//! that a conflict rests on, and the order in which variables are decided.
+//! The tables of a search for an assignment: the literals that it made true, the literals that clauses watch, the
+//! variables that a conflict rests on, and the order in which variables are decided.
 #![tactic(auto)]
 
 mod clauses;

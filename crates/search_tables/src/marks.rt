@@ -1,6 +1,22 @@
 //! The variables that a conflict rests on.
 
-ghost use Rattle.std.specs.Prelude.{◌≡◌, ◌+◌, ◌<◌, ◌≤◌, ℕ, ℤ, length, true, false, Some, IsTrue, IfOk, All, unsigned_abs, slice_index_or};
+ghost use Rattle.std.specs.Prelude.{
+  ◌≡◌,
+  ◌+◌,
+  ◌<◌,
+  ◌≤◌,
+  ℕ,
+  ℤ,
+  length,
+  true,
+  false,
+  Some,
+  IsTrue,
+  IfOk,
+  All,
+  unsigned_abs,
+  slice_index_or,
+};
 ghost use Rattle.rup_check.specs.Trail.{IsWithin};
 ghost use Rattle.search_tables.specs.Marking.{IsSeen, IsLow};
 

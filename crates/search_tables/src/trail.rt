@@ -1,6 +1,29 @@
 //! The literals that the search made true.
 
-ghost use Rattle.std.specs.Prelude.{◌≡◌, ◌+◌, ◌<◌, ◌≤◌, ◌↔◌, ℕ, [], ◌∷◌, ◌++◌, length, take, true, false, Some, None, IsTrue, IfOk, IfSome, OnOk, neg_ℤ, unsigned_abs, slice_index_or};
+ghost use Rattle.std.specs.Prelude.{
+  ◌≡◌,
+  ◌+◌,
+  ◌<◌,
+  ◌≤◌,
+  ◌↔◌,
+  ℕ,
+  [],
+  ◌∷◌,
+  ◌++◌,
+  length,
+  take,
+  true,
+  false,
+  Some,
+  None,
+  IsTrue,
+  IfOk,
+  IfSome,
+  OnOk,
+  neg_ℤ,
+  unsigned_abs,
+  slice_index_or,
+};
 ghost use Rattle.cnf_form.specs.Literals.{IsLiteral};
 ghost use Rattle.rup_check.specs.Follows.{IsMade};
 ghost use Rattle.rup_check.specs.Trail.{IsWithin};
@@ -31,7 +54,12 @@ impl Model for Trail {
 
     ghost Value = { Trail };
 
-    ghost view = { λ t. record { variables = length t.places.items; literals = map (λ step. step.literal) t.steps.items; reasons = map (λ step. step.reason) t.steps.items } };
+    ghost view = { λ t. record {
+      variables = length t.places.items;
+      literals = map (λ step. step.literal)
+          t.steps.items;
+      reasons = map (λ step. step.reason) t.steps.items;
+    } };
 
     ghost invariant = { λ t. Places t.places.items (map (λ step. step.literal) t.steps.items) };
 }
@@ -73,8 +101,10 @@ impl Trail {
     /// The place at which a literal of the same variable stands.
     pub fn place(&self, literal: i32) -> Option<usize>
         requires { IsWithin self.now.variables literal }
-        ensures there { IfSome result (λ p. (p < length self.now.literals) × (variable_at self.now.literals p ≡ unsigned_abs literal)) }
-        ensures found { (p : ℕ) → p < length self.now.literals → variable_at self.now.literals p ≡ unsigned_abs literal → result ≡ Some p }
+        ensures there { IfSome result (λ p. (p < length self.now.literals) × (variable_at self.now.literals p
+            ≡ unsigned_abs literal)) }
+        ensures found { (p : ℕ) → p < length self.now.literals → variable_at self.now.literals p ≡ unsigned_abs literal
+            → result ≡ Some p }
     {
         let place = self.places[index(literal)];
         if place < self.steps.len()
@@ -119,7 +149,11 @@ impl Trail {
         requires within { IsWithin self.old.variables literal }
         requires not_true { ¬ IsMade self.old.literals literal }
         requires not_false { ¬ IsMade self.old.literals (neg_ℤ literal) }
-        ensures { OnOk result (self.new ≡ record self.old { literals = self.old.literals ++ literal ∷ []; reasons = self.old.reasons ++ reason ∷ [] }) }
+        ensures { OnOk result (self.new ≡ record self.old {
+          literals = self.old.literals ++ literal
+              ∷ [];
+          reasons = self.old.reasons ++ reason ∷ [];
+        }) }
     {
         let place = self.steps.len();
         self.steps.push(Step { literal, reason })?;
@@ -129,7 +163,11 @@ impl Trail {
 
     /// Takes all literals back but the first `count`.
     pub fn truncate(&mut self, count: usize)
-        ensures { self.new ≡ record self.old { literals = take count self.old.literals; reasons = take count self.old.reasons } }
+        ensures { self.new ≡ record self.old {
+          literals = take count self.old.literals;
+          reasons = take count
+              self.old.reasons;
+        } }
     {
         self.steps.truncate(count);
     }

@@ -1,6 +1,27 @@
 //! The literals that clauses watch.
 
-ghost use Rattle.std.specs.Prelude.{◌≡◌, ◌≢◌, ◌⊎◌, ◌+◌, ◌<◌, ◌≤◌, ◌^◌, ℕ, [], ◌∷◌, ◌++◌, length, drop, unsigned_abs, All, Contains, IfOk, OnOk, slice_index_or, slice_set};
+ghost use Rattle.std.specs.Prelude.{
+  ◌≡◌,
+  ◌≢◌,
+  ◌⊎◌,
+  ◌+◌,
+  ◌<◌,
+  ◌≤◌,
+  ◌^◌,
+  ℕ,
+  [],
+  ◌∷◌,
+  ◌++◌,
+  length,
+  drop,
+  unsigned_abs,
+  All,
+  Contains,
+  IfOk,
+  OnOk,
+  slice_index_or,
+  slice_set,
+};
 ghost use Rattle.cnf_form.specs.Literals.{most, NamesOnce};
 ghost use Rattle.rup_check.specs.Trail.{IsWithin};
 ghost use Rattle.search_tables.specs.Entries.{IsTakenOut, spot_of, list_of};
@@ -61,8 +82,10 @@ impl Watches {
     /// The literal that the clause watches beside this one.
     pub fn other(&self, number: u32, falsified: i32) -> i32
         requires { number < length self.now.pairs.items }
-        ensures stays { (result ≡ (pair_at self.now.pairs.items number).one) ⊎ (result ≡ (pair_at self.now.pairs.items number).other) }
-        ensures differ { (pair_at self.now.pairs.items number).one ≢ (pair_at self.now.pairs.items number).other → result ≢ falsified }
+        ensures stays { (result ≡ (pair_at self.now.pairs.items number).one)
+            ⊎ (result ≡ (pair_at self.now.pairs.items number).other) }
+        ensures differ { (pair_at self.now.pairs.items number).one ≢ (pair_at self.now.pairs.items number).other
+            → result ≢ falsified }
     {
         let pair = self.pairs[number as usize];
         if pair.one == falsified {
@@ -74,7 +97,8 @@ impl Watches {
 
     fn push(&mut self, literal: i32, number: u32) -> Result<(), AllocError>
         requires { spot_of literal < length self.old.lists.items }
-        ensures lists { OnOk result (self.new.lists.items ≡ slice_set self.old.lists.items (spot_of literal) (list_of self.old.lists.items literal ++ number ∷ [])) }
+        ensures lists { OnOk result (self.new.lists.items ≡ slice_set self.old.lists.items (spot_of literal)
+            (list_of self.old.lists.items literal ++ number ∷ [])) }
         ensures pairs { self.new.pairs ≡ self.old.pairs }
     {
         self.lists[spot(literal)].push(number)
@@ -101,11 +125,16 @@ impl Watches {
         requires at { at < length (list_of self.old.lists.items falsified) }
         requires watching { IsWatching variables self.old.pairs.items self.old.lists.items }
         requires one { IsWithin variables pair.one }
-        requires change { IsChange self.old.pairs.items (slice_index_or (list_of self.old.lists.items falsified) at 0) falsified pair }
-        ensures pairs { OnOk result (self.new.pairs.items ≡ slice_set self.old.pairs.items (slice_index_or (list_of self.old.lists.items falsified) at 0) pair) }
+        requires change { IsChange self.old.pairs.items (slice_index_or (list_of self.old.lists.items falsified) at 0)
+            falsified pair }
+        ensures pairs { OnOk result (self.new.pairs.items ≡ slice_set self.old.pairs.items
+            (slice_index_or (list_of self.old.lists.items falsified) at 0) pair) }
         ensures watching { OnOk result (IsWatching variables self.new.pairs.items self.new.lists.items) }
-        ensures shorter { OnOk result (length (list_of self.new.lists.items falsified) + 1 ≡ length (list_of self.old.lists.items falsified)) }
-        ensures rest { OnOk result ((c : ℕ) → slice_index_or (list_of self.old.lists.items falsified) at 0 ≢ c → Contains (drop at (list_of self.old.lists.items falsified)) c → Contains (drop at (list_of self.new.lists.items falsified)) c) }
+        ensures shorter { OnOk result (length (list_of self.new.lists.items falsified) + 1
+            ≡ length (list_of self.old.lists.items falsified)) }
+        ensures rest { OnOk result ((c : ℕ) → slice_index_or (list_of self.old.lists.items falsified) at 0 ≢ c
+            → Contains (drop at (list_of self.old.lists.items falsified)) c
+            → Contains (drop at (list_of self.new.lists.items falsified)) c) }
     {
         let number = self.entry(falsified, at);
         self.remove(falsified, at);
@@ -121,7 +150,8 @@ impl Watches {
         requires once { NamesOnce literals.now }
         requires within { All (IsWithin variables) literals.now }
         requires watching { IsWatching variables self.old.pairs.items self.old.lists.items }
-        ensures { OnOk result (WatchesMore variables literals.now self.old.pairs.items self.new.pairs.items self.new.lists.items) }
+        ensures { OnOk result (WatchesMore variables literals.now self.old.pairs.items self.new.pairs.items
+            self.new.lists.items) }
     {
         if literals.len() > 1 {
             self.add(variables, literals[0], literals[1])
@@ -137,7 +167,8 @@ impl Watches {
         requires one { IsWithin variables one }
         requires other { IsWithin variables other }
         requires watching { IsWatching variables self.old.pairs.items self.old.lists.items }
-        ensures pairs { OnOk result (self.new.pairs.items ≡ self.old.pairs.items ++ record { one = one; other = other } ∷ []) }
+        ensures pairs { OnOk result (self.new.pairs.items ≡ self.old.pairs.items ++ record { one = one; other = other }
+            ∷ []) }
         ensures watching { OnOk result (IsWatching variables self.new.pairs.items self.new.lists.items) }
     {
         let number = self.pairs.len() as u32;
@@ -151,7 +182,8 @@ impl Watches {
     fn add_single(&mut self, variables: u32, literal: i32) -> Result<(), AllocError>
         requires literal { IsWithin variables literal }
         requires watching { IsWatching variables self.old.pairs.items self.old.lists.items }
-        ensures pairs { OnOk result (self.new.pairs.items ≡ self.old.pairs.items ++ record { one = literal; other = literal } ∷ []) }
+        ensures pairs { OnOk result (self.new.pairs.items ≡ self.old.pairs.items
+            ++ record { one = literal; other = literal } ∷ []) }
         ensures watching { OnOk result (IsWatching variables self.new.pairs.items self.new.lists.items) }
     {
         self.pairs.push(Pair {

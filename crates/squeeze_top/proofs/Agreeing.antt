@@ -4,8 +4,8 @@ use Rattle.std.specs.Prelude.{IsSome, IsSomeAnd, option_map}
 use Rattle.wc_outside.specs.Contents.{Files}
 use Rattle.c_tree.specs.declared.program.Program.{Program}
 use Rattle.c_tree.specs.declared.program.Costs.{Costs}
-use Rattle.c_tree.specs.Runs.{run}
-use Rattle.c_run.specs.Ends.{ended}
+use Rattle.c_tree.specs.Meaning.Runs.{run}
+use Rattle.c_run.specs.Ends.{end_of_run}
 use Rattle.c_input.proofs.InputRead.{one_input}
 use Rattle.flow_laws.specs.Graphs.{graph}
 use Rattle.flow_graph.specs.Limits.{block_copies}
@@ -22,7 +22,7 @@ use Rattle.front_end.specs.Statuses.{status_of}
 use Rattle.front_end.proofs.InFiles.{one_accepted}
 use Rattle.front_end.proofs.Agreeing.{one_status as one_status_of, not_both}
 use Rattle.squeeze_top.specs.Answers.{bound_line, ipet_lines, run_line, Tells}
-use Rattle.squeeze_top.specs.Jobs.{source, input_of, Give, Served, AreRefused, IsAnswer}
+use Rattle.squeeze_top.specs.Jobs.{source, job_input, Give, Served, AreRefused, IsAnswer}
 
 -- ---- answers
 
@@ -44,7 +44,7 @@ same_answer Ipet p t input s u a b h k =
 same_answer Blocks p t input s u a b h k = (h.0 ∙ sym k.0, h.1 ∙ sym k.1)
 same_answer Run p t input s u a b h k =
     let values = one_input p h.1.values k.1.values h.1.fitting k.1.fitting (h.1.spelled ∙ sym k.1.spelled) in
-    (h.0 ∙ sym k.0, h.1.line ∙ ap (λ i. run_line (ended t (run p i))) values ∙ sym k.1.line)
+    (h.0 ∙ sym k.0, h.1.line ∙ ap (λ i. run_line (end_of_run t (run p i))) values ∙ sym k.1.line)
 same_answer Print p t input s u a b h k = (h.0 ∙ sym k.0, h.1.lines ∙ sym k.1.lines)
 same_answer Make p t input s u a b h k = absurd h
 same_answer Workout p t input s u a b h k = absurd h
@@ -74,7 +74,7 @@ answered_whole job told s text h = ends_whole job.mode h.program h.costs job.inp
 
 -- ---- what is served
 
-has_input : (m : Mode) (p : Program) (t : Costs) (input : List ℕ) (s : Status) (text : List ℕ) → Tells m p t input s text → HasInput (input_of m input) p
+has_input : (m : Mode) (p : Program) (t : Costs) (input : List ℕ) (s : Status) (text : List ℕ) → Tells m p t input s text → HasInput (job_input m input) p
 has_input Squeeze p t input s text h = tt
 has_input Bound p t input s text h = tt
 has_input Ipet p t input s text h = tt
@@ -86,7 +86,7 @@ has_input Workout p t input s text h = tt
 
 -- texts that are accepted are served, where the input that is asked for is there
 pub served : (job : Job) (file : Option (List ℕ)) (told : Option Files) (p : Program) (t : Costs) → IsSomeAnd (option_map (source job) file) (λ s. AreAccepted s told p t)
-    → HasInput (input_of job.mode job.input) p → IsSomeAnd (option_map (source job) file) (λ s. IsServed s told)
+    → HasInput (job_input job.mode job.input) p → IsSomeAnd (option_map (source job) file) (λ s. IsServed s told)
 served job None told p t h input = absurd h
 served job (Some file) told p t h input = record { program = p; costs = t; accepted = h; input = input }
 

@@ -6,7 +6,7 @@ use Rattle.wc_outside.specs.Contents.{Files}
 use Rattle.wc_outside.specs.Growth.{Grew, GrewByPrefix}
 use Rattle.c_tree.specs.declared.program.Program.{Program}
 use Rattle.c_tree.specs.declared.program.Costs.{Costs}
-use Rattle.c_tree.specs.Claims.{Above}
+use Rattle.c_tree.specs.Meaning.Claims.{Above}
 use Rattle.word_line.specs.declared.job.Mode.{Mode}
 use Rattle.word_line.specs.declared.job.Mode.TheVariants.{Squeeze, Bound, Ipet, Blocks, Run, Print, Make, Workout}
 use Rattle.word_line.specs.declared.job.Job.{Job}
@@ -14,13 +14,14 @@ use Rattle.front_end.specs.declared.status.Status.{Status}
 use Rattle.front_end.specs.declared.status.Status.TheVariants as status
 use Rattle.front_end.specs.Refusing.{HasInput}
 use Rattle.squeeze_top.specs.Answers.{Tells, IsBoundLine}
-use Rattle.squeeze_top.specs.Jobs.{input_of, Give}
+use Rattle.squeeze_top.specs.Jobs.{job_input, Give}
 use Rattle.squeeze_top.specs.Lines.{AreLines, WroteLine, WroteBound}
 use Rattle.squeeze_top.specs.Written.{MayBeWritten, Wrote}
 use Rattle.squeeze_top.specs.Written.MayBeWritten.{Empty, Answer, Line}
-use Rattle.squeeze_top.proofs.WholeLines.{assoc, bound_told, ipet_told}
+use Rattle.squeeze_top.proofs.WholeLines.{bound_told, ipet_told}
 use Rattle.squeeze_top.proofs.Agreeing.{one_given, served, served_stands}
 use Rattle.squeeze_top.proofs.Written.{grew_nothing}
+use Rattle.std.proofs.lemmas.List.{append_assoc}
 
 -- the text has this line, behind whole lines
 record Holds (text line : List ℕ) : Type 0 where
@@ -60,8 +61,8 @@ held_in_part old new text line part w =
     record {
       front = h.front;
       back = h.back ++ drop part.count text;
-      is = sym (take_drop part.count text) ∙ ap (λ l. l ++ drop part.count text) h.is ∙ assoc h.front (line ++ h.back) (drop part.count text)
-          ∙ ap (λ l. h.front ++ l) (assoc line h.back (drop part.count text));
+      is = sym (take_drop part.count text) ∙ ap (λ l. l ++ drop part.count text) h.is ∙ append_assoc h.front (line ++ h.back) (drop part.count text)
+          ∙ ap (λ l. h.front ++ l) (append_assoc line h.back (drop part.count text));
       lines = h.lines;
     }
 
@@ -104,7 +105,7 @@ empty_holds_none Make n line b holds = b
 empty_holds_none Workout n line b holds = b
 
 -- a mode that prints bounds asks for no input
-unasked : (m : Mode) (n : ℕ) (line input : List ℕ) (p : Program) → IsBoundLine m n line → HasInput (input_of m input) p
+unasked : (m : Mode) (n : ℕ) (line input : List ℕ) (p : Program) → IsBoundLine m n line → HasInput (job_input m input) p
 unasked Bound n line input p b = tt
 unasked Ipet n line input p b = tt
 unasked Squeeze n line input p b = tt

@@ -6,6 +6,7 @@ use Rattle.std.specs.Str.Parse.{digits_value}
 use Rattle.std.proofs.lemmas.Fmt.{decimal_by_steps_wide, decimal_is_IsNumeral_wide}
 use Rattle.squeeze_top.specs.Answers.{bound_line, ipet_line, ipet_lines}
 use Rattle.squeeze_top.specs.Lines.{AreLines}
+use Rattle.std.proofs.lemmas.List.{append_assoc}
 
 -- ---- bytes without a line feed
 
@@ -26,10 +27,6 @@ same_number m n small_m small_n same =
     sym ((decimal_is_IsNumeral_wide m (omega (arith, small_m))).1) ∙ ap (digits_value 10) same ∙ (decimal_is_IsNumeral_wide n (omega (arith, small_n))).1
 
 -- ---- the first line feed
-
-pub assoc : (a b c : List ℕ) → (a ++ b) ++ c ≡ a ++ (b ++ c)
-assoc [] b c = refl
-assoc (x ∷ a) b c = ap (λ l. x ∷ l) (assoc a b c)
 
 nothing_ends : (x b : List ℕ) → x ++ 10 ∷ b ≡ [] → ⊥
 nothing_ends x b h = absurd (omega (arith, ap length h, length-append x (10 ∷ b)))
@@ -57,7 +54,7 @@ up_to_feed (d ∷ w) (c ∷ v) a b one other same =
 one_line : (w v front rest : List ℕ) → NoFeed w → NoFeed v → AreLines front → w ++ 10 ∷ [] ≡ front ++ (v ++ 10 ∷ rest) → w ≡ v
 one_line w v front rest one other (inl e) same = up_to_feed w v [] rest one other (same ∙ ap (λ f. f ++ (v ++ 10 ∷ rest)) e)
 one_line w v front rest one other (inr e) same =
-    later (behind_feed w e.0 [] (v ++ 10 ∷ rest) one (same ∙ ap (λ f. f ++ (v ++ 10 ∷ rest)) e.1 ∙ assoc e.0 (10 ∷ []) (v ++ 10 ∷ rest)))
+    later (behind_feed w e.0 [] (v ++ 10 ∷ rest) one (same ∙ ap (λ f. f ++ (v ++ 10 ∷ rest)) e.1 ∙ append_assoc e.0 (10 ∷ []) (v ++ 10 ∷ rest)))
   where
     later : ((v ++ 10 ∷ rest ≡ []) ⊎ ((x : List ℕ) × ([] ≡ x ++ 10 ∷ (v ++ 10 ∷ rest)))) → w ≡ v
     later (inl h) = absurd (nothing_ends v rest h)
@@ -68,7 +65,7 @@ two_lines : (w u v front rest : List ℕ) → NoFeed w → NoFeed u → NoFeed v
     → w ++ 10 ∷ (u ++ 10 ∷ []) ≡ front ++ (v ++ 10 ∷ rest) → (w ≡ v) ⊎ (u ≡ v)
 two_lines w u v front rest one two other (inl e) same = inl (up_to_feed w v (u ++ 10 ∷ []) rest one other (same ∙ ap (λ f. f ++ (v ++ 10 ∷ rest)) e))
 two_lines w u v front rest one two other (inr e) same =
-    later (behind_feed w e.0 (u ++ 10 ∷ []) (v ++ 10 ∷ rest) one (same ∙ ap (λ f. f ++ (v ++ 10 ∷ rest)) e.1 ∙ assoc e.0 (10 ∷ []) (v ++ 10 ∷ rest)))
+    later (behind_feed w e.0 (u ++ 10 ∷ []) (v ++ 10 ∷ rest) one (same ∙ ap (λ f. f ++ (v ++ 10 ∷ rest)) e.1 ∙ append_assoc e.0 (10 ∷ []) (v ++ 10 ∷ rest)))
   where
     later : ((v ++ 10 ∷ rest ≡ u ++ 10 ∷ []) ⊎ ((x : List ℕ) × (u ++ 10 ∷ [] ≡ x ++ 10 ∷ (v ++ 10 ∷ rest)))) → (w ≡ v) ⊎ (u ≡ v)
     later (inl h) = inr (up_to_feed u v [] rest two other (sym h))
@@ -98,7 +95,7 @@ bound_told m n front rest small_m small_n lines same =
     let w = codes "bound " ++ decimal m in
     let v = codes "bound " ++ decimal n in
     let is : w ≡ v = one_line w v front rest (numbered (codes "bound ") m bound_feedless small_m) (numbered (codes "bound ") n bound_feedless small_n) lines
-    (same ∙ ap (λ l. front ++ l) (assoc v (10 ∷ []) rest)) in
+    (same ∙ ap (λ l. front ++ l) (append_assoc v (10 ∷ []) rest)) in
     let tail : decimal m ≡ decimal n = cc in
     same_number m n small_m small_n tail
 
@@ -109,8 +106,8 @@ ipet_feedless : NoFeed (codes "ipet ")
 ipet_feedless = ((λ e. cc), ((λ e. cc), ((λ e. cc), ((λ e. cc), ((λ e. cc), tt)))))
 
 split_lines : (copies m : ℕ) → ipet_lines copies m ≡ (codes "blocks " ++ decimal copies) ++ 10 ∷ ((codes "ipet " ++ decimal m) ++ 10 ∷ [])
-split_lines copies m = ap (λ l. l ++ codes "\n") (assoc (codes "blocks " ++ decimal copies) (codes "\nipet ") (decimal m))
-    ∙ assoc (codes "blocks " ++ decimal copies) (codes "\nipet " ++ decimal m) (codes "\n")
+split_lines copies m = ap (λ l. l ++ codes "\n") (append_assoc (codes "blocks " ++ decimal copies) (codes "\nipet ") (decimal m))
+    ∙ append_assoc (codes "blocks " ++ decimal copies) (codes "\nipet " ++ decimal m) (codes "\n")
 
 -- the line of a bound of the two lines of block copies and a bound is that of the bound
 pub ipet_told : (copies m n : ℕ) (front rest : List ℕ) → copies < 2 ^ 128 → m < 2 ^ 128 → n < 2 ^ 128 → AreLines front
@@ -120,7 +117,7 @@ ipet_told copies m n front rest small small_m small_n lines same =
     let u = codes "ipet " ++ decimal m in
     let v = codes "ipet " ++ decimal n in
     found (two_lines w u v front rest (numbered (codes "blocks ") copies blocks_feedless small) (numbered (codes "ipet ") m ipet_feedless small_m)
-    (numbered (codes "ipet ") n ipet_feedless small_n) lines (sym (split_lines copies m) ∙ same ∙ ap (λ l. front ++ l) (assoc v (10 ∷ []) rest)))
+    (numbered (codes "ipet ") n ipet_feedless small_n) lines (sym (split_lines copies m) ∙ same ∙ ap (λ l. front ++ l) (append_assoc v (10 ∷ []) rest)))
   where
     found : (codes "blocks " ++ decimal copies ≡ codes "ipet " ++ decimal n) ⊎ (codes "ipet " ++ decimal m ≡ codes "ipet " ++ decimal n) → m ≡ n
     found (inl h) = let first : 98 ≡ 105 = ap mark h in absurd (omega (arith, first))

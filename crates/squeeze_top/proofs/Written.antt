@@ -8,7 +8,7 @@ use Rattle.word_line.specs.declared.job.Job.{Job}
 use Rattle.front_end.specs.declared.refusal.Refusal.{Refusal}
 use Rattle.front_end.specs.declared.status.Status.{Status}
 use Rattle.front_end.specs.declared.status.Status.TheVariants as status
-use Rattle.front_end.specs.Lines.{line_of}
+use Rattle.front_end.specs.Lines.{refusal_line}
 use Rattle.front_end.specs.Statuses.{status_of}
 use Rattle.squeeze_top.specs.Jobs.{IsAnswer, AreRefused}
 use Rattle.squeeze_top.specs.Written.{WrotePart, Wrote}
@@ -34,8 +34,8 @@ wrote_answer s u job told old new text answer ends (inr h) whole part =
     subst (λ v. Wrote v job told old new) (sym h) (record { text = text; may = Answer u answer; written = part h })
 
 pub wrote_refusal : (s : Status) (job : Job) (told : Option Files) (old new : Option (List ℕ)) (refusal : Refusal) (faults : Type 0) → AreRefused job told refusal
-    → (s ≢ status.WriteFault → s ≢ status.NoMemory → (s ≡ status_of refusal) × Grew old new (line_of refusal))
-    → (s ≡ status.WriteFault → GrewByPrefix old new (line_of refusal) × faults) → (s ≡ status.NoMemory → new ≡ old)
+    → (s ≢ status.WriteFault → s ≢ status.NoMemory → (s ≡ status_of refusal) × Grew old new (refusal_line refusal))
+    → (s ≡ status.WriteFault → GrewByPrefix old new (refusal_line refusal) × faults) → (s ≡ status.NoMemory → new ≡ old)
     → (s ≢ status.Whole) × (s ≢ status.ReadFault) × (s ≢ status.Inexact) → Wrote s job told old new
 wrote_refusal status.Whole job told old new refusal faults refused said part memory none = absurd (none.0 refl)
 wrote_refusal status.Inexact job told old new refusal faults refused said part memory none = absurd (none.2 refl)
@@ -50,7 +50,7 @@ wrote_refusal status.Costs job told old new refusal faults refused said part mem
     let h = said (λ e. absurd (cc)) (λ e. absurd (cc)) in
     record { refusal = refusal; refused = refused; same = sym h.0; written = h.1 }
 wrote_refusal status.WriteFault job told old new refusal faults refused said part memory none =
-    record { text = line_of refusal; may = Line refusal refused refl; written = (part refl).0 }
+    record { text = refusal_line refusal; may = Line refusal refused refl; written = (part refl).0 }
 wrote_refusal status.NoMemory job told old new refusal faults refused said part memory none = wrote_nothing job told old new (memory refl)
 
 -- ---- statuses

@@ -5,19 +5,19 @@ use Rattle.c_tree.specs.declared.program.Func.{Func}
 use Rattle.c_tree.specs.declared.program.Program.{Program}
 use Rattle.c_tree.specs.declared.program.Costs.{Costs}
 use Rattle.c_tree.specs.declared.program.Input.{Input}
-use Rattle.c_tree.specs.Runs.{fits, run}
-use Rattle.c_tree.specs.Claims.{Above}
-use Rattle.c_tree.specs.Checked.{IsSpelled}
-use Rattle.c_tree.specs.Refusals.{Typed}
+use Rattle.c_tree.specs.Meaning.Runs.{fits, run}
+use Rattle.c_tree.specs.Meaning.Claims.{Above}
+use Rattle.c_tree.specs.Checking.Checked.{IsSpelled}
+use Rattle.c_tree.specs.Checking.Refusals.{Typed}
 use Rattle.flow_laws.specs.Graphs.{graph}
 use Rattle.flow_graph.specs.Limits.{block_copies}
 use Rattle.ipet_rows.specs.Optimum.{IpetOptimum}
 use Rattle.c_run.specs.declared.run_end.RunEnd.{RunEnd}
 use Rattle.c_run.specs.declared.run_end.RunEnd.TheVariants.{Ends, Undefined, OverBound}
-use Rattle.c_run.specs.Ends.{ended}
+use Rattle.c_run.specs.Ends.{end_of_run}
 use Rattle.c_input.specs.InputTexts.{input_text}
 use Rattle.print_laws.specs.Again.{IsReadAs}
-use Rattle.print_laws.specs.Printed.{printed}
+use Rattle.print_laws.specs.Printed.{printed_program}
 use Rattle.word_line.specs.declared.job.Mode.{Mode}
 use Rattle.word_line.specs.declared.job.Mode.TheVariants.{Squeeze, Bound, Ipet, Blocks, Run, Print, Make, Workout}
 use Rattle.front_end.specs.declared.status.Status.{Status}
@@ -75,11 +75,11 @@ pub record TellsRun (p : Program) (t : Costs) (input text : List ℕ) : Type 0 w
   pub values : Input
   pub fitting : IsTrue (fits p values)
   pub spelled : input_text p values ≡ input
-  pub line : text ≡ run_line (ended t (run p values))
+  pub line : text ≡ run_line (end_of_run t (run p values))
 
 -- the text is that of the printed program, and with each entry with which the program is typed it is read as this one
 pub record TellsProgram (p : Program) (text : List ℕ) : Type 0 where
-  pub lines : text ≡ printed p
+  pub lines : text ≡ printed_program p
   pub again : (unit : Tree) (entry : List ℕ) → IsSpelled unit → Typed unit entry p → IsReadAs text entry p
 
 -- the table of modes: over the program p with the costs t and the text of the input, a mode ends with this status and

@@ -14,14 +14,14 @@ use Rattle.front_end.specs.Files.{Source, AreAccepted, IsServed, Refuses}
 use Rattle.squeeze_top.specs.Answers.{Tells}
 
 -- a run alone asks for an input
-abbrev pub input_of : Mode → List ℕ → Option (List ℕ)
-input_of Run text = Some text
-input_of _ text = None
+abbrev pub job_input : Mode → List ℕ → Option (List ℕ)
+job_input Run text = Some text
+job_input _ text = None
 
 -- where the texts of a job come from, this being its file
 abbrev pub source : Job → List ℕ → Source
 source job file =
-    record { file = file; entry = job.entry; input = input_of job.mode job.input; table = job.costs }
+    record { file = file; entry = job.entry; input = job_input job.mode job.input; table = job.costs }
 
 -- of the texts of a job
 abbrev pub OfTexts : Job → (Source → Type 0) → Type 0

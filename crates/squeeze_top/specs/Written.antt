@@ -5,8 +5,17 @@ use Rattle.wc_outside.specs.Growth.{Grew, GrewByPrefix}
 use Rattle.word_line.specs.declared.job.Job.{Job}
 use Rattle.front_end.specs.declared.refusal.Refusal.{Refusal}
 use Rattle.front_end.specs.declared.status.Status.{Status}
-use Rattle.front_end.specs.declared.status.Status.TheVariants.{Whole, Inexact, Words, Program, Costs, ReadFault, WriteFault, NoMemory}
-use Rattle.front_end.specs.Lines.{line_of}
+use Rattle.front_end.specs.declared.status.Status.TheVariants.{
+  Whole,
+  Inexact,
+  Words,
+  Program,
+  Costs,
+  ReadFault,
+  WriteFault,
+  NoMemory,
+}
+use Rattle.front_end.specs.Lines.{refusal_line}
 use Rattle.front_end.specs.Statuses.{status_of}
 use Rattle.squeeze_top.specs.Jobs.{IsAnswer, AreRefused}
 
@@ -21,13 +30,13 @@ pub record WroteRefusal (status : Status) (job : Job) (told : Option Files) (old
   pub refusal : Refusal
   pub refused : AreRefused job told refusal
   pub same : status_of refusal ≡ status
-  pub written : Grew old new (line_of refusal)
+  pub written : Grew old new (refusal_line refusal)
 
 -- a text that may be written: none, an answer, or the line of a refusal
 pub data MayBeWritten (job : Job) (told : Option Files) (text : List ℕ) : Type 0 where
   Empty : text ≡ [] → MayBeWritten job told text
   Answer : (status : Status) → IsAnswer job told status text → MayBeWritten job told text
-  Line : (refusal : Refusal) → AreRefused job told refusal → text ≡ line_of refusal → MayBeWritten job told text
+  Line : (refusal : Refusal) → AreRefused job told refusal → text ≡ refusal_line refusal → MayBeWritten job told text
 
 -- a part of a text that may be written was written
 pub record WrotePart (job : Job) (told : Option Files) (old new : Option (List ℕ)) : Type 0 where

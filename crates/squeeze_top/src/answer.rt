@@ -1,13 +1,13 @@
 //! What each mode answers, of texts that are accepted.
 
 ghost use Rattle.std.specs.Prelude.{◌≡◌, ◌<◌, ◌^◌, ◌++◌, IsTrue, IfOk, OnOk};
-ghost use Rattle.c_tree.specs.Runs as runs;
-ghost use Rattle.c_run.specs.Ends.{ended};
+ghost use Rattle.c_tree.specs.Meaning.Runs as runs;
+ghost use Rattle.c_run.specs.Ends.{end_of_run};
 ghost use Rattle.word_line.specs.Jobs.{is_built};
 ghost use Rattle.front_end.specs.declared.status.Status.TheVariants.{Whole};
 ghost use Rattle.front_end.specs.Refusing.{IsInput};
 ghost use Rattle.squeeze_top.specs.Answers as spec;
-ghost use Rattle.squeeze_top.specs.Jobs.{input_of};
+ghost use Rattle.squeeze_top.specs.Jobs.{job_input};
 
 use c_print::print;
 use c_run::{RunEnd, run};
@@ -30,7 +30,7 @@ pub(crate) struct Answer {
 /// The answer of the job's mode.
 pub(crate) fn answer_of(alloc: Global, job: &Job, front: &Front) -> Result<Answer, NoMemory>
     requires built { IsTrue (is_built job.now.mode) }
-    requires input { IsInput (input_of job.now.mode job.now.input) front.now.plan.program front.now.input }
+    requires input { IsInput (job_input job.now.mode job.now.input) front.now.plan.program front.now.input }
     ensures whole { IfOk result (λ a. a.status ≡ Whole) }
     ensures told { IfOk result (λ a. let plan = front.now.plan in
         spec.Tells job.now.mode plan.program plan.costs job.now.input a.status a.text.items) }
@@ -62,7 +62,7 @@ fn whole(text: Vec<u8>) -> Answer
 fn run_text(alloc: Global, plan: &Plan, input: &Input) -> Result<Vec<u8>, NoMemory>
     requires { IsTrue (runs.fits plan.now.program input.now) }
     ensures { IfOk result (λ text. text.items
-        ≡ spec.run_line (ended plan.now.costs (runs.run plan.now.program input.now))) }
+        ≡ spec.run_line (end_of_run plan.now.costs (runs.run plan.now.program input.now))) }
 {
     let end = run(alloc, plan.program(), plan.costs(), input)?;
     Ok(run_line(alloc, end)?)

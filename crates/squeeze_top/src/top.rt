@@ -5,7 +5,7 @@ ghost use Rattle.wc_outside.specs.Causes.{Rose};
 ghost use Rattle.wc_outside.specs.Growth.{Grew, GrewByPrefix};
 ghost use Rattle.c_tree.specs.declared.program.Program.{Program as Tree};
 ghost use Rattle.c_tree.specs.declared.program.Costs.{Costs as Table};
-ghost use Rattle.c_tree.specs.Claims.{Above};
+ghost use Rattle.c_tree.specs.Meaning.Claims.{Above};
 ghost use Rattle.word_line.specs.declared.job.Job.{Job};
 ghost use Rattle.word_line.specs.Jobs.{IsJob};
 ghost use Rattle.word_line.specs.Words.{AskFor};

@@ -25,7 +25,7 @@ pub(crate) fn replaced(
     requires elements_in { AllBelow (length terms.old.ops) elements.now }
     requires few { length elements.now < 2 ^ 32 }
     ensures { IfOk result (λ ns.
-        Gives (AsMany (length elements.now)) (spec.replaced at 0 value elements.now) terms.old terms.new ns) }
+        Gives (AsMany (length elements.now)) (spec.elements_after at 0 value elements.now) terms.old terms.new ns) }
 {
     let mut after = Items::new(alloc);
     for index in 0..elements.len() {
@@ -37,7 +37,7 @@ pub(crate) fn replaced(
 
 /// So many terms that are 0. It refuses for want of memory alone; then some of them may stand in the store of terms.
 pub fn zeros(alloc: Global, terms: &mut Terms, count: usize) -> Result<Items<u32>, NoMemory>
-    ensures { IfOk result (λ ns. Gives (AsMany count) (spec.zeros count) terms.old terms.new ns) }
+    ensures { IfOk result (λ ns. Gives (AsMany count) (spec.zero_terms count) terms.old terms.new ns) }
 {
     let mut list = Items::new(alloc);
     for _index in 0..count {

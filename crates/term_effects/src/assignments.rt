@@ -2,7 +2,7 @@
 
 ghost use Rattle.std.specs.Prelude.{◌≡◌, ◌<◌, ◌^◌, length, IfOk};
 ghost use Rattle.cond_laws.specs.TermStatements as spec;
-ghost use Rattle.cond_laws.specs.TermStatements.{effect};
+ghost use Rattle.cond_laws.specs.TermStatements.{effect_with};
 ghost use Rattle.cond_laws.specs.TermStores.{held_at};
 ghost use Rattle.cond_laws.specs.Fits.{FitEffect, FitJudged, FitStore};
 ghost use Rattle.term_steps.specs.Gives.{Gives};
@@ -24,7 +24,7 @@ fn place_value(
     store: &TermStore,
 ) -> Result<Judged, NoMemory>
     requires { FitStore (length terms.old.ops) store.now }
-    ensures { IfOk result (λ j. Gives FitJudged (spec.place_value place.now store.now) terms.old terms.new j) }
+    ensures { IfOk result (λ j. Gives FitJudged (spec.place_term place.now store.now) terms.old terms.new j) }
 {
     match place {
         Place::Scalar(x) => named(alloc, terms, held(store, *x)),
@@ -46,7 +46,7 @@ fn assigned_value(
 ) -> Result<Judged, NoMemory>
     requires { FitStore (length terms.old.ops) store.now }
     ensures { IfOk result (λ j.
-        Gives FitJudged (spec.assigned_value place.now op.now value.now store.now) terms.old terms.new j) }
+        Gives FitJudged (spec.assigned_term place.now op.now value.now store.now) terms.old terms.new j) }
 {
     match op {
         None => expr(alloc, terms, value, store),
@@ -72,7 +72,7 @@ fn put_element(
     requires value_in { FitJudged (length terms.old.ops) value }
     ensures { IfOk result (λ cs.
         Gives FitEffect (spec.put_element store.old var (held_at store.old var) at value)
-        terms.old terms.new (effect store.new cs)) }
+        terms.old terms.new (effect_with store.new cs)) }
 {
     let slot = held(store, var);
     let ty = held_ty(slot);
@@ -100,7 +100,7 @@ pub(crate) fn assign(
 ) -> Result<Items<u32>, NoMemory>
     requires { FitStore (length terms.old.ops) store.old }
     ensures { IfOk result (λ cs.
-        Gives FitEffect (spec.assign place.now op.now value.now store.old) terms.old terms.new (effect store.new cs)) }
+        Gives FitEffect (spec.assignment_effect place.now op.now value.now store.old) terms.old terms.new (effect_with store.new cs)) }
 {
     match place {
         Place::Scalar(x) => {

@@ -25,7 +25,7 @@ fn set(slots: &mut Items<TermSlot>, n: u32, slot: TermSlot)
 
 /// Puts a slot in a variable's place, if it has one.
 pub(crate) fn put_slot(store: &mut TermStore, var: Var, slot: TermSlot)
-    ensures { store.new ≡ spec.with_slot store.old var slot }
+    ensures { store.new ≡ spec.with_term_slot store.old var slot }
 {
     match var {
         Var::Local(n) => set(&mut store.locals, n, slot),
@@ -35,7 +35,7 @@ pub(crate) fn put_slot(store: &mut TermStore, var: Var, slot: TermSlot)
 
 /// Takes its value from a local, as a declaration does that is reached (6.2.4 paragraph 6).
 pub fn unset_local(local: u32, store: &mut TermStore)
-    ensures { store.new ≡ spec.unset_local local store.old }
+    ensures { store.new ≡ spec.unset_local_term local store.old }
 {
     let ty = held_ty(held(store, Var::Local(local)));
     put_slot(store, Var::Local(local), TermSlot::Unset(ty));

@@ -2,7 +2,7 @@
 
 ghost use Rattle.std.specs.Prelude.{◌≡◌, ◌≤◌, ◌^◌, length, IfOk};
 ghost use Rattle.cond_laws.specs.TermStatements as spec;
-ghost use Rattle.cond_laws.specs.TermStatements.{effect};
+ghost use Rattle.cond_laws.specs.TermStatements.{effect_with};
 ghost use Rattle.cond_laws.specs.Fits.{FitEffect, FitStore};
 ghost use Rattle.cond_laws.specs.Sizes.{HasSmallList, HaveSmallLists};
 ghost use Rattle.term_steps.specs.Gives.{Gives};
@@ -27,8 +27,8 @@ fn declare(
 ) -> Result<Items<u32>, NoMemory>
     requires { FitStore (length terms.old.ops) store.old }
     ensures { IfOk result (λ cs.
-        Gives FitEffect (spec.simple (Stmt.Scalar local initial.now) store.old)
-        terms.old terms.new (effect store.new cs)) }
+        Gives FitEffect (spec.simple_effect (Stmt.Scalar local initial.now) store.old)
+        terms.old terms.new (effect_with store.new cs)) }
 {
     unset_local(local, store);
     match initial {
@@ -53,7 +53,7 @@ fn declare_array(
     requires there { FitStore (length terms.old.ops) store.old }
     requires few { length list.now ≤ 2 ^ 31 }
     ensures { IfOk result (λ cs.
-        Gives FitEffect (spec.simple (Stmt.Array local list.now) store.old) terms.old terms.new (effect store.new cs)) }
+        Gives FitEffect (spec.simple_effect (Stmt.Array local list.now) store.old) terms.old terms.new (effect_with store.new cs)) }
 {
     let slot = held(store, Var::Local(local));
     let ty = held_ty(slot);
@@ -77,7 +77,7 @@ fn simple(
     requires there { FitStore (length terms.old.ops) store.old }
     requires small { HasSmallList statement.now }
     ensures { IfOk result (λ cs.
-        Gives FitEffect (spec.simple statement.now store.old) terms.old terms.new (effect store.new cs)) }
+        Gives FitEffect (spec.simple_effect statement.now store.old) terms.old terms.new (effect_with store.new cs)) }
 {
     match statement {
         Stmt::Empty => Ok(Items::new(alloc)),
@@ -102,7 +102,7 @@ pub fn all_simple(
     requires there { FitStore (length terms.old.ops) store.old }
     requires small { HaveSmallLists statements.now }
     ensures { IfOk result (λ cs.
-        Gives FitEffect (spec.all_simple statements.now store.old) terms.old terms.new (effect store.new cs)) }
+        Gives FitEffect (spec.simple_effects statements.now store.old) terms.old terms.new (effect_with store.new cs)) }
 {
     let mut conditions = Items::new(alloc);
     for statement in statements {

@@ -1,5 +1,5 @@
-//! Terms in the lines of cases that test programs read: operators by their names, stores of terms, and why a case has no
-//! answer.
+//! Terms in the lines of cases that test programs read: operators by their names, stores of terms, and why a case has
+//! no answer.
 #![tactic(auto)]
 
 mod op;

@@ -7,8 +7,8 @@ use Rattle.c_tree.specs.declared.tree.Var.{Var}
 use Rattle.cond_laws.specs.declared.store.TermSlot.{TermSlot}
 use Rattle.cond_laws.specs.TermStores.{held_at}
 use Rattle.cond_laws.specs.Fits.{FitJudged, FitHeld, FitStore}
-use Rattle.cond_laws.proofs.OperandFits.{below_more, below_append, judged_more}
-use Rattle.cond_laws.proofs.ExpressionFits.{store_more, held_fits}
+use Rattle.cond_laws.proofs.Fitting.OperandFits.{below_more, below_append, judged_more}
+use Rattle.cond_laws.proofs.Fitting.ExpressionFits.{store_more, held_fits}
 
 pub judged_stays : {k n : ℕ} {j : Judged} → FitJudged k j → k ≤ n → FitJudged n j
 judged_stays {k} {n} {j} h l = judged_more k n j l h
@@ -33,13 +33,6 @@ below_pushed {k} {n} {m} ns ms h l f e = subst (λ (ms : List ℕ). AllBelow n m
 pub below_grown : {k n : ℕ} (ns ms all : List ℕ) → AllBelow k ns → k ≤ n → AllBelow n ms → all ≡ ns ++ ms → AllBelow n all
 below_grown {k} {n} ns ms all h l f e = subst (λ (ns : List ℕ). AllBelow n ns) (sym e) (below_append n ns ms (below_more k n ns l h) f)
 
--- the first of what is left
-pub split : (xs : List ℕ) (i : ℕ) → i < length xs → drop i xs ≡ get_or xs i 0 ∷ drop (i + 1) xs
-split xs i h = drop-cons xs i 0 h ∙ ap (λ n. get_or xs i 0 ∷ drop n xs) (next i)
-  where
-    next : (i : ℕ) → suc i ≡ i + 1
-    next i = omega arith
-
 -- ---- what is read
 
 pub below_read : {k n : ℕ} (xs ys : List ℕ) → ys ≡ xs → AllBelow k xs → k ≤ n → AllBelow n ys
@@ -49,7 +42,3 @@ pub held_read : {k n : ℕ} {s : TermStore} {o : Option TermSlot} (x : Var) → 
 held_read {n = n} {s = s} x e h l = subst (λ (o : Option TermSlot). FitHeld n o) (sym e) (held_fits n s x (store_stays h l))
 
 -- ---- loops over lists
-
--- the item at i, and the rest
-pub next_item : {A : Type 0} (xs : List A) (i : ℕ) (x : A) → i < length xs → x ≡ get_or xs i x → drop i xs ≡ x ∷ drop (i + 1) xs
-next_item xs i x below is = drop-cons xs i x below ∙ ap (λ y. y ∷ drop (suc i) xs) (sym is) ∙ ap (λ j. x ∷ drop j xs) (sym (add-one i))

@@ -6,8 +6,8 @@ use Rattle.bv_term.specs.Scripts.{Script, put, pure, ◌>>=◌}
 use Rattle.cond_laws.specs.declared.value.Judged.{Judged}
 use Rattle.cond_laws.specs.declared.store.TermSlot.{TermSlot}
 use Rattle.cond_laws.specs.declared.store.TermSlot.TheVariants.{Unset, Number, Numbers}
-use Rattle.cond_laws.specs.Judged.{given}
-use Rattle.cond_laws.specs.TermStores.{picked, within}
+use Rattle.cond_laws.specs.Judged.{judged_term}
+use Rattle.cond_laws.specs.TermStores.{element_choice, index_condition}
 
 -- nonzero where a is not -2^31 or b is not -1
 abbrev pub no_overflow : ℕ → ℕ → Script ℕ
@@ -38,10 +38,14 @@ one_pick e k n x = do i ← put (op.Const k); c ← put (op.Eq e i); put (op.Ite
 -- `a[e]` of an array of these elements, and of what is none
 abbrev pub array_element : Ty → List ℕ → Judged → Script Judged
 array_element t ns e =
-    do z ← put (op.Const 0); x ← picked e.term 0 z ns; c ← within e.term (length ns); pure (given t x (e.conditions ++ c ∷ []))
+    do
+      z ← put (op.Const 0)
+      x ← element_choice e.term 0 z ns
+      c ← index_condition e.term (length ns)
+      pure (judged_term t x (e.conditions ++ c ∷ []))
 
 abbrev pub no_element : Ty → Judged → Script Judged
-no_element t e = do z ← put (op.Const 0); pure (given t z (e.conditions ++ z ∷ []))
+no_element t e = do z ← put (op.Const 0); pure (judged_term t z (e.conditions ++ z ∷ []))
 
 -- the elements of an array that has them
 abbrev pub array_in : Option TermSlot → Option (List ℕ)

@@ -34,7 +34,7 @@ pub(crate) fn quotient(
 ) -> Result<Judged, NoMemory>
     requires a_in { a < length terms.old.ops }
     requires b_in { b < length terms.old.ops }
-    ensures { IfOk result (λ j. Gives FitJudged (spec.divided Op.DivS Op.DivU ty a b) terms.old terms.new j) }
+    ensures { IfOk result (λ j. Gives FitJudged (spec.division_term Op.DivS Op.DivU ty a b) terms.old terms.new j) }
 {
     if ty == Ty::Unsigned {
         let quotient = put(terms, Op::DivU(a, b))?;
@@ -55,7 +55,7 @@ pub(crate) fn remainder(
 ) -> Result<Judged, NoMemory>
     requires a_in { a < length terms.old.ops }
     requires b_in { b < length terms.old.ops }
-    ensures { IfOk result (λ j. Gives FitJudged (spec.divided Op.RemS Op.RemU ty a b) terms.old terms.new j) }
+    ensures { IfOk result (λ j. Gives FitJudged (spec.division_term Op.RemS Op.RemU ty a b) terms.old terms.new j) }
 {
     if ty == Ty::Unsigned {
         let remainder = put(terms, Op::RemU(a, b))?;
@@ -85,7 +85,7 @@ pub(crate) fn shifted_left(
 ) -> Result<Judged, NoMemory>
     requires a_in { a < length terms.old.ops }
     requires b_in { b < length terms.old.ops }
-    ensures { IfOk result (λ j. Gives FitJudged (spec.shifted_left ty a b) terms.old terms.new j) }
+    ensures { IfOk result (λ j. Gives FitJudged (spec.left_shift_term ty a b) terms.old terms.new j) }
 {
     let shifted = put(terms, Op::Shl(a, b))?;
     let count = below_width(terms, b)?;
@@ -108,7 +108,7 @@ pub(crate) fn shifted_right(
 ) -> Result<Judged, NoMemory>
     requires a_in { a < length terms.old.ops }
     requires b_in { b < length terms.old.ops }
-    ensures { IfOk result (λ j. Gives FitJudged (spec.shifted_right ty a b) terms.old terms.new j) }
+    ensures { IfOk result (λ j. Gives FitJudged (spec.right_shift_term ty a b) terms.old terms.new j) }
 {
     let op = match ty {
         Ty::Int => Op::ShrS(a, b),

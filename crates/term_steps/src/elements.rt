@@ -51,7 +51,7 @@ pub fn array_in(slot: Option<&TermSlot>) -> Option<&Items<u32>>
 /// A scalar, which is undefined where it is unset.
 pub fn named(alloc: Global, terms: &mut Terms, slot: Option<&TermSlot>) -> Result<Judged, NoMemory>
     requires { FitHeld (length terms.old.ops) (option_copied slot) }
-    ensures { IfOk result (λ j. Gives FitJudged (spec.named (option_copied slot.entry)) terms.old terms.new j) }
+    ensures { IfOk result (λ j. Gives FitJudged (spec.scalar_term (option_copied slot.entry)) terms.old terms.new j) }
 {
     match slot {
         Some(TermSlot::Number(ty, term)) => Ok(sure(alloc, *ty, *term)),
@@ -85,7 +85,7 @@ fn picked(terms: &mut Terms, at: u32, other: u32, elements: &[u32]) -> Result<u3
     requires other_in { other < length terms.old.ops }
     requires elements_in { AllBelow (length terms.old.ops) elements.now }
     requires few { length elements.now < 2 ^ 32 }
-    ensures { IfOk result (λ t. Gives Below (spec.picked at 0 other elements.now) terms.old terms.new t) }
+    ensures { IfOk result (λ t. Gives Below (spec.element_choice at 0 other elements.now) terms.old terms.new t) }
 {
     let mut chosen = other;
     for index in 0..elements.len() {
@@ -97,7 +97,7 @@ fn picked(terms: &mut Terms, at: u32, other: u32, elements: &[u32]) -> Result<u3
 /// Nonzero where an index is within an array of so many elements.
 pub fn within(terms: &mut Terms, at: u32, count: u32) -> Result<u32, NoMemory>
     requires { at < length terms.old.ops }
-    ensures { IfOk result (λ t. Gives Below (spec.within at count) terms.old terms.new t) }
+    ensures { IfOk result (λ t. Gives Below (spec.index_condition at count) terms.old terms.new t) }
 {
     let count = put(terms, Op::Const(count))?;
     put(terms, Op::LtU(at, count))
@@ -146,7 +146,8 @@ fn no_element(terms: &mut Terms, ty: Ty, at: Judged) -> Result<Judged, NoMemory>
 pub fn element(terms: &mut Terms, slot: Option<&TermSlot>, at: Judged) -> Result<Judged, NoMemory>
     requires slot_in { FitHeld (length terms.old.ops) (option_copied slot) }
     requires at_in { FitJudged (length terms.old.ops) at }
-    ensures { IfOk result (λ j. Gives FitJudged (spec.element (option_copied slot.entry) at) terms.old terms.new j) }
+    ensures { IfOk result (λ j. Gives FitJudged (spec.element_term (option_copied slot.entry) at) terms.old terms.new
+        j) }
 {
     let ty = held_ty(slot);
     match array_in(slot) {

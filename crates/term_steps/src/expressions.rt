@@ -14,8 +14,8 @@ use cond_laws::{Judged, Listed, TermStore};
 use sqlite_items::Items;
 use std::alloc::Global;
 
-/// The value of an expression in a store of terms. It puts the terms of the operands from left to right, and before those of
-/// their operator. It refuses for want of memory alone; then further terms may stand in the store of terms.
+/// The value of an expression in a store of terms. It puts the terms of the operands from left to right, and before
+/// those of their operator. It refuses for want of memory alone; then further terms may stand in the store of terms.
 pub fn expr(
     alloc: Global,
     terms: &mut Terms,
@@ -23,7 +23,7 @@ pub fn expr(
     store: &TermStore,
 ) -> Result<Judged, NoMemory>
     requires { FitStore (length terms.old.ops) store.now }
-    ensures { IfOk result (λ j. Gives FitJudged (spec.expr e.now store.now) terms.old terms.new j) }
+    ensures { IfOk result (λ j. Gives FitJudged (spec.expr_term e.now store.now) terms.old terms.new j) }
 {
     match e {
         Expr::Num(ty, n) => {

@@ -54,7 +54,8 @@ fn where_true(
 ) -> Result<Items<u32>, NoMemory>
     requires chooser_in { chooser < length terms.old.ops }
     requires conditions_in { AllBelow (length terms.old.ops) conditions.now }
-    ensures { IfOk result (λ cs. Gives AllBelow (spec.where_true chooser conditions.now) terms.old terms.new cs) }
+    ensures { IfOk result (λ cs. Gives AllBelow (spec.conditions_where_true chooser conditions.now) terms.old terms.new
+        cs) }
 {
     let mut chosen = Items::new(alloc);
     for condition in conditions {
@@ -73,7 +74,8 @@ fn where_false(
 ) -> Result<Items<u32>, NoMemory>
     requires chooser_in { chooser < length terms.old.ops }
     requires conditions_in { AllBelow (length terms.old.ops) conditions.now }
-    ensures { IfOk result (λ cs. Gives AllBelow (spec.where_false chooser conditions.now) terms.old terms.new cs) }
+    ensures { IfOk result (λ cs. Gives AllBelow (spec.conditions_where_false chooser conditions.now) terms.old
+        terms.new cs) }
 {
     let mut chosen = Items::new(alloc);
     for condition in conditions {
@@ -111,7 +113,7 @@ fn either_value(terms: &mut Terms, a: u32, b: u32) -> Result<u32, NoMemory>
 fn both(alloc: Global, terms: &mut Terms, p: Judged, q: Judged) -> Result<Judged, NoMemory>
     requires p_in { FitJudged (length terms.old.ops) p }
     requires q_in { FitJudged (length terms.old.ops) q }
-    ensures { IfOk result (λ j. Gives FitJudged (spec.both p q) terms.old terms.new j) }
+    ensures { IfOk result (λ j. Gives FitJudged (spec.both_term p q) terms.old terms.new j) }
 {
     let term = both_value(terms, p.term, q.term)?;
     let more = where_true(alloc, terms, p.term, q.conditions.as_slice())?;
@@ -127,7 +129,7 @@ fn both(alloc: Global, terms: &mut Terms, p: Judged, q: Judged) -> Result<Judged
 fn either(alloc: Global, terms: &mut Terms, p: Judged, q: Judged) -> Result<Judged, NoMemory>
     requires p_in { FitJudged (length terms.old.ops) p }
     requires q_in { FitJudged (length terms.old.ops) q }
-    ensures { IfOk result (λ j. Gives FitJudged (spec.either p q) terms.old terms.new j) }
+    ensures { IfOk result (λ j. Gives FitJudged (spec.either_term p q) terms.old terms.new j) }
 {
     let term = either_value(terms, p.term, q.term)?;
     let more = where_false(alloc, terms, p.term, q.conditions.as_slice())?;
@@ -150,7 +152,7 @@ pub(crate) fn chosen(
     requires c_in { FitJudged (length terms.old.ops) c }
     requires p_in { FitJudged (length terms.old.ops) p }
     requires q_in { FitJudged (length terms.old.ops) q }
-    ensures { IfOk result (λ j. Gives FitJudged (spec.chosen c p q) terms.old terms.new j) }
+    ensures { IfOk result (λ j. Gives FitJudged (spec.choice_term c p q) terms.old terms.new j) }
 {
     let term = put(terms, Op::Ite(c.term, p.term, q.term))?;
     let first = where_true(alloc, terms, c.term, p.conditions.as_slice())?;
@@ -174,7 +176,8 @@ fn with_operands(
 ) -> Result<Judged, NoMemory>
     requires p_in { FitJudged (length terms.old.ops) p }
     requires q_in { FitJudged (length terms.old.ops) q }
-    ensures { IfOk result (λ j. Gives FitJudged (spec.with_operands p q (spec.binary op p.ty p.term q.ty q.term)) terms.old terms.new j) }
+    ensures { IfOk result (λ j. Gives FitJudged (spec.with_operands p q (spec.binary_term op p.ty p.term q.ty q.term))
+        terms.old terms.new j) }
 {
     let value = binary(alloc, terms, op, &p, &q)?;
     let operands = joined(p.conditions, q.conditions)?;
@@ -196,7 +199,7 @@ pub fn operated(
 ) -> Result<Judged, NoMemory>
     requires p_in { FitJudged (length terms.old.ops) p }
     requires q_in { FitJudged (length terms.old.ops) q }
-    ensures { IfOk result (λ j. Gives FitJudged (spec.operated op p q) terms.old terms.new j) }
+    ensures { IfOk result (λ j. Gives FitJudged (spec.operation_term op p q) terms.old terms.new j) }
 {
     match op {
         BinOp::Both => both(alloc, terms, p, q),

@@ -21,7 +21,7 @@ pub(crate) fn sum(
 ) -> Result<Judged, NoMemory>
     requires a_in { a < length terms.old.ops }
     requires b_in { b < length terms.old.ops }
-    ensures { IfOk result (λ j. Gives FitJudged (spec.sum ty a b) terms.old terms.new j) }
+    ensures { IfOk result (λ j. Gives FitJudged (spec.sum_term ty a b) terms.old terms.new j) }
 {
     let sum = put(terms, Op::Add(a, b))?;
     if ty == Ty::Unsigned {
@@ -44,7 +44,7 @@ pub(crate) fn difference(
 ) -> Result<Judged, NoMemory>
     requires a_in { a < length terms.old.ops }
     requires b_in { b < length terms.old.ops }
-    ensures { IfOk result (λ j. Gives FitJudged (spec.difference ty a b) terms.old terms.new j) }
+    ensures { IfOk result (λ j. Gives FitJudged (spec.difference_term ty a b) terms.old terms.new j) }
 {
     let difference = put(terms, Op::Sub(a, b))?;
     if ty == Ty::Unsigned {
@@ -61,7 +61,7 @@ pub(crate) fn difference(
 fn magnitude(terms: &mut Terms, a: u32, negative: u32) -> Result<u32, NoMemory>
     requires a_in { a < length terms.old.ops }
     requires negative_in { negative < length terms.old.ops }
-    ensures { IfOk result (λ t. Gives Below (spec.magnitude a negative) terms.old terms.new t) }
+    ensures { IfOk result (λ t. Gives Below (spec.magnitude_term a negative) terms.old terms.new t) }
 {
     let turned = put(terms, Op::Neg(a))?;
     put(terms, Op::Ite(negative, turned, a))
@@ -77,7 +77,7 @@ pub(crate) fn product(
 ) -> Result<Judged, NoMemory>
     requires a_in { a < length terms.old.ops }
     requires b_in { b < length terms.old.ops }
-    ensures { IfOk result (λ j. Gives FitJudged (spec.product ty a b) terms.old terms.new j) }
+    ensures { IfOk result (λ j. Gives FitJudged (spec.product_term ty a b) terms.old terms.new j) }
 {
     let product = put(terms, Op::Mul(a, b))?;
     if ty == Ty::Unsigned {
@@ -102,7 +102,7 @@ pub(crate) fn product(
 /// The negative of a term in a type: 0 less the term.
 pub(crate) fn minus(alloc: Global, terms: &mut Terms, ty: Ty, a: u32) -> Result<Judged, NoMemory>
     requires { a < length terms.old.ops }
-    ensures { IfOk result (λ j. Gives FitJudged (spec.minus ty a) terms.old terms.new j) }
+    ensures { IfOk result (λ j. Gives FitJudged (spec.minus_term ty a) terms.old terms.new j) }
 {
     let negative = put(terms, Op::Neg(a))?;
     if ty == Ty::Unsigned {

@@ -13,8 +13,8 @@ use cond_laws::Judged;
 use sqlite_items::Items;
 use std::alloc::Global;
 
-/// Puts an operator and gives its number. It refuses for want of memory alone, also where the store is full; the store then has
-/// the terms that it had.
+/// Puts an operator and gives its number. It refuses for want of memory alone, also where the store is full; the store
+/// then has the terms that it had.
 pub fn put(terms: &mut Terms, op: Op) -> Result<u32, NoMemory>
     requires { FitsOp (length terms.old.inputs) (length terms.old.ops) op }
     ensures { IfOk result (λ t. Gives Below (script.put op) terms.old terms.new t) }
@@ -38,7 +38,7 @@ pub fn sure(alloc: Global, ty: Ty, term: u32) -> Judged
 
 /// A value with one condition.
 pub fn given_one(alloc: Global, ty: Ty, term: u32, condition: u32) -> Result<Judged, NoMemory>
-    ensures { IfOk result (λ j. j ≡ judged.given ty term (condition ∷ [])) }
+    ensures { IfOk result (λ j. j ≡ judged.judged_term ty term (condition ∷ [])) }
 {
     let mut conditions = Items::new(alloc);
     conditions.push(condition)?;
@@ -57,7 +57,7 @@ pub fn given_two(
     first: u32,
     second: u32,
 ) -> Result<Judged, NoMemory>
-    ensures { IfOk result (λ j. j ≡ judged.given ty term (first ∷ second ∷ [])) }
+    ensures { IfOk result (λ j. j ≡ judged.judged_term ty term (first ∷ second ∷ [])) }
 {
     let mut conditions = Items::new(alloc);
     conditions.push(first)?;

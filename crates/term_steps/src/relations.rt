@@ -1,4 +1,5 @@
-//! The terms of relations, of operators on bits, and of all operators whose operands are both evaluated (C11 6.5.5 to 6.5.12).
+//! The terms of relations, of operators on bits, and of all operators whose operands are both evaluated (C11 6.5.5 to
+//! 6.5.12).
 
 ghost use Rattle.std.specs.Prelude.{◌≡◌, ◌<◌, length, IfOk};
 ghost use Rattle.bv_term.specs.Stores.{FitsOp};
@@ -27,7 +28,7 @@ fn one_op(alloc: Global, terms: &mut Terms, ty: Ty, op: Op) -> Result<Judged, No
 /// `int` 1 where the operator gives 0, and else 0.
 fn negated(alloc: Global, terms: &mut Terms, op: Op) -> Result<Judged, NoMemory>
     requires { FitsOp (length terms.old.inputs) (length terms.old.ops) op }
-    ensures { IfOk result (λ j. Gives FitJudged (spec.negated op) terms.old terms.new j) }
+    ensures { IfOk result (λ j. Gives FitJudged (spec.negation_term op) terms.old terms.new j) }
 {
     let term = put(terms, op)?;
     let zero = put(terms, Op::Const(0))?;
@@ -36,7 +37,7 @@ fn negated(alloc: Global, terms: &mut Terms, op: Op) -> Result<Judged, NoMemory>
 
 /// Whether a word is less than another, both read in a type.
 fn less(ty: Ty, a: u32, b: u32) -> Op
-    ensures { result ≡ spec.less ty a b }
+    ensures { result ≡ spec.less_op ty a b }
 {
     match ty {
         Ty::Int => Op::LtS(a, b),
@@ -48,7 +49,7 @@ fn less(ty: Ty, a: u32, b: u32) -> Op
 fn is_less(alloc: Global, terms: &mut Terms, ty: Ty, a: u32, b: u32) -> Result<Judged, NoMemory>
     requires a_in { a < length terms.old.ops }
     requires b_in { b < length terms.old.ops }
-    ensures { IfOk result (λ j. Gives FitJudged (spec.truth (spec.less ty a b)) terms.old terms.new j) }
+    ensures { IfOk result (λ j. Gives FitJudged (spec.truth_term (spec.less_op ty a b)) terms.old terms.new j) }
 {
     one_op(alloc, terms, Ty::Int, less(ty, a, b))
 }
@@ -57,7 +58,7 @@ fn is_less(alloc: Global, terms: &mut Terms, ty: Ty, a: u32, b: u32) -> Result<J
 fn is_not_less(alloc: Global, terms: &mut Terms, ty: Ty, a: u32, b: u32) -> Result<Judged, NoMemory>
     requires a_in { a < length terms.old.ops }
     requires b_in { b < length terms.old.ops }
-    ensures { IfOk result (λ j. Gives FitJudged (spec.negated (spec.less ty a b)) terms.old terms.new j) }
+    ensures { IfOk result (λ j. Gives FitJudged (spec.negation_term (spec.less_op ty a b)) terms.old terms.new j) }
 {
     negated(alloc, terms, less(ty, a, b))
 }
@@ -72,7 +73,8 @@ pub(crate) fn binary(
 ) -> Result<Judged, NoMemory>
     requires p_in { p.now.term < length terms.old.ops }
     requires q_in { q.now.term < length terms.old.ops }
-    ensures { IfOk result (λ j. Gives FitJudged (spec.binary op p.now.ty p.now.term q.now.ty q.now.term) terms.old terms.new j) }
+    ensures { IfOk result (λ j. Gives FitJudged (spec.binary_term op p.now.ty p.now.term q.now.ty q.now.term) terms.old
+        terms.new j) }
 {
     let ty = common(p.ty, q.ty);
     let a = p.term;
@@ -107,7 +109,7 @@ pub(crate) fn unary(
     p: &Judged,
 ) -> Result<Judged, NoMemory>
     requires { p.now.term < length terms.old.ops }
-    ensures { IfOk result (λ j. Gives FitJudged (spec.unary op p.now.ty p.now.term) terms.old terms.new j) }
+    ensures { IfOk result (λ j. Gives FitJudged (spec.unary_term op p.now.ty p.now.term) terms.old terms.new j) }
 {
     match op {
         UnOp::Plus => Ok(sure(alloc, p.ty, p.term)),

@@ -1,7 +1,7 @@
 //! What is told of a case.
 
 use crate::reading::{tokens_of, unit_of};
-use crate::refusal::Refusal;
+use crate::refusal::CaseRefusal;
 use crate::shown_tokens::shown_tokens;
 use crate::shown_unit::shown;
 use c_parse::ParseFault;
@@ -17,7 +17,7 @@ pub fn answer_to(alloc: Global, line: &str) -> Result<String, AllocError> {
     }
 }
 
-fn asked(alloc: Global, line: &str) -> Result<String, Refusal> {
+fn asked(alloc: Global, line: &str) -> Result<String, CaseRefusal> {
     let (kind, part) = line.split_once(" ## ").ok_or(CaseFault::Form)?;
     let text = bytes_of(alloc, part)?;
     Ok(match kind {
@@ -25,27 +25,27 @@ fn asked(alloc: Global, line: &str) -> Result<String, Refusal> {
         "count" => format!(in alloc; "{}", tokens_of(alloc, &text)?.len())?,
         "tree" => shown(alloc, &unit_of(alloc, &text)?)?,
         "read" => was_read(alloc, &text)?,
-        _ => return Err(Refusal::Case(CaseFault::Form)),
+        _ => return Err(CaseRefusal::Case(CaseFault::Form)),
     })
 }
 
 // Whether the text has a tree.
-fn was_read(alloc: Global, text: &[u8]) -> Result<String, Refusal> {
+fn was_read(alloc: Global, text: &[u8]) -> Result<String, CaseRefusal> {
     let answer = match unit_of(alloc, text) {
         Ok(_) => "read",
-        Err(Refusal::Tree(ParseFault::Syntax { .. })) => "refused",
+        Err(CaseRefusal::Tree(ParseFault::Syntax { .. })) => "refused",
         Err(refusal) => return Err(refusal),
     };
     Ok(String::from_str(alloc, answer)?)
 }
 
-fn refused(alloc: Global, refusal: Refusal) -> Result<String, AllocError> {
+fn refused(alloc: Global, refusal: CaseRefusal) -> Result<String, AllocError> {
     match refusal {
-        Refusal::Tokens(TokenFault::Byte { at }) => format!(in alloc; "Byte at {at}"),
-        Refusal::Tokens(TokenFault::Comment { at }) => format!(in alloc; "Comment at {at}"),
-        Refusal::Tokens(TokenFault::Number { at }) => format!(in alloc; "Number at {at}"),
-        Refusal::Tokens(TokenFault::Directive { at }) => format!(in alloc; "Directive at {at}"),
-        Refusal::Tree(ParseFault::Syntax { at }) => format!(in alloc; "Syntax at {at}"),
+        CaseRefusal::Tokens(TokenFault::Byte { at }) => format!(in alloc; "Byte at {at}"),
+        CaseRefusal::Tokens(TokenFault::Comment { at }) => format!(in alloc; "Comment at {at}"),
+        CaseRefusal::Tokens(TokenFault::Number { at }) => format!(in alloc; "Number at {at}"),
+        CaseRefusal::Tokens(TokenFault::Directive { at }) => format!(in alloc; "Directive at {at}"),
+        CaseRefusal::Tree(ParseFault::Syntax { at }) => format!(in alloc; "Syntax at {at}"),
         other => format!(in alloc; "{other:?}"),
     }
 }

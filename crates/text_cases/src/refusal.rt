@@ -7,7 +7,7 @@ use std::alloc::AllocError;
 
 /// Why nothing is asked of a text, or what was asked does not come.
 #[derive(Clone, Copy, Debug, PartialEq, Eq)]
-pub enum Refusal {
+pub enum CaseRefusal {
     /// The line is no case.
     Case(CaseFault),
     /// The text is longer than the tool reads.
@@ -18,26 +18,26 @@ pub enum Refusal {
     Tree(ParseFault),
 }
 
-impl From<AllocError> for Refusal {
-    fn from(_error: AllocError) -> Refusal {
-        Refusal::Case(CaseFault::NoMemory)
+impl From<AllocError> for CaseRefusal {
+    fn from(_error: AllocError) -> CaseRefusal {
+        CaseRefusal::Case(CaseFault::NoMemory)
     }
 }
 
-impl From<CaseFault> for Refusal {
-    fn from(fault: CaseFault) -> Refusal {
-        Refusal::Case(fault)
+impl From<CaseFault> for CaseRefusal {
+    fn from(fault: CaseFault) -> CaseRefusal {
+        CaseRefusal::Case(fault)
     }
 }
 
-impl From<TokenFault> for Refusal {
-    fn from(fault: TokenFault) -> Refusal {
-        Refusal::Tokens(fault)
+impl From<TokenFault> for CaseRefusal {
+    fn from(fault: TokenFault) -> CaseRefusal {
+        CaseRefusal::Tokens(fault)
     }
 }
 
-impl From<ParseFault> for Refusal {
-    fn from(fault: ParseFault) -> Refusal {
-        Refusal::Tree(fault)
+impl From<ParseFault> for CaseRefusal {
+    fn from(fault: ParseFault) -> CaseRefusal {
+        CaseRefusal::Tree(fault)
     }
 }

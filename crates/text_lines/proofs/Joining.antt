@@ -1,25 +1,24 @@
 -- A line before what may follow it.
 use Rattle.std.proofs.Common.{◌≡◌, ℕ, ◌+◌, ◌<◌, Bool, true, false, not, ◌&&◌, ◌⊎◌, ◌==◌, eqb-true, List, [], ◌∷◌, ◌++◌, length, refl, sym, ◌∙◌, ap, arith, append_assoc, length-append, inl, inr}
 use Rattle.std.specs.List.{list_all}
-use Rattle.std.proofs.lemmas.Bool.{false≢true, not-true}
+use Rattle.std.proofs.lemmas.Bool.{false≢true, not-true, and_parts}
 use Rattle.std.proofs.lemmas.List.{append-nil}
 use Rattle.std.proofs.lemmas.List.Folds.{list_all-append}
 use Rattle.text_lines.specs.Lines.{lines_of}
 use Rattle.text_lines.specs.Cutting.{HasNoFeed, EndsInFeed, IsUnfinished, AreLines, Anything}
-use Rattle.text_lines.proofs.Bytes.{and_true}
 
 -- ---- lines at a line feed
 
 pub lines_feed : (xs ys : List ℕ) → HasNoFeed xs → lines_of (xs ++ 10 ∷ ys) ≡ (xs ++ 10 ∷ []) ∷ lines_of ys
 lines_feed [] ys no_feed = refl
 lines_feed (x ∷ xs) ys no_feed =
-    let parts = and_true (not (x == 10)) (list_all (λ b. not (b == 10)) xs) no_feed in
+    let parts = and_parts (not (x == 10)) (list_all (λ b. not (b == 10)) xs) no_feed in
     rw (not-true (x == 10) parts.0, lines_feed xs ys parts.1) refl
 
 lines_single : (x : ℕ) (xs : List ℕ) → HasNoFeed (x ∷ xs) → lines_of (x ∷ xs) ≡ (x ∷ xs) ∷ []
-lines_single x [] no_feed = rw (not-true (x == 10) (and_true (not (x == 10)) true no_feed).0) refl
+lines_single x [] no_feed = rw (not-true (x == 10) (and_parts (not (x == 10)) true no_feed).0) refl
 lines_single x (y ∷ ys) no_feed =
-    let parts = and_true (not (x == 10)) (list_all (λ b. not (b == 10)) (y ∷ ys)) no_feed in
+    let parts = and_parts (not (x == 10)) (list_all (λ b. not (b == 10)) (y ∷ ys)) no_feed in
     rw (not-true (x == 10) parts.0, lines_single y ys parts.1) refl
 
 -- a text without a line feed is one line

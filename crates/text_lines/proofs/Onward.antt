@@ -1,11 +1,10 @@
 -- How a text goes on from its first line.
 use Rattle.std.proofs.Common.{◌≡◌, ℕ, ◌<◌, ◌==◌, true, false, not, ◌⊎◌, inl, inr, List, [], ◌∷◌, ◌++◌, length, refl, sym, ◌∙◌, ap, arith, length-append}
 use Rattle.std.specs.List.{list_all, flat_map}
-use Rattle.std.proofs.lemmas.Bool.{not-true}
+use Rattle.std.proofs.lemmas.Bool.{not-true, and_parts}
 use Rattle.std.proofs.lemmas.List.{append-nil}
 use Rattle.text_lines.specs.Lines.{onto_first, lines_of}
 use Rattle.text_lines.specs.Cutting.{HasNoFeed, EndsInFeed, IsUnfinished, CutsLine, Anything}
-use Rattle.text_lines.proofs.Bytes.{and_true}
 use Rattle.text_lines.proofs.Joining.{joins_feed, joins_end}
 use Rattle.text_lines.proofs.Leaving.{concat_lines}
 
@@ -24,11 +23,11 @@ step x text plain = rw plain refl
 
 onward_open : (x : ℕ) (xs more : List ℕ) → HasNoFeed (x ∷ xs) → Onward (x ∷ xs) more
 onward_open x [] more no_feed =
-    let plain = not-true (x == 10) (and_true (not (x == 10)) true no_feed).0 in
+    let plain = not-true (x == 10) (and_parts (not (x == 10)) true no_feed).0 in
     let joined = onto x (lines_of more) in
     record { ending = joined.0; rest = joined.1; lines = step x more plain ∙ joined.2 }
 onward_open x (y ∷ ys) more no_feed =
-    let parts = and_true (not (x == 10)) (list_all (λ b. not (b == 10)) (y ∷ ys)) no_feed in
+    let parts = and_parts (not (x == 10)) (list_all (λ b. not (b == 10)) (y ∷ ys)) no_feed in
     let plain = not-true (x == 10) parts.0 in
     let rest = onward_open y ys more parts.1 in
     record { ending = rest.ending; rest = rest.rest; lines = step x ((y ∷ ys) ++ more) plain ∙ ap (onto_first x) rest.lines }

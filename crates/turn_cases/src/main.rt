@@ -1,24 +1,22 @@
-//! Cases of the search for the dearest run, line by line. Headings are written as they are, and each case has its answer on
-//! one line. A case has ` ## ` between its parts, and `@` in a text for each line feed:
+//! Cases of the search for the dearest run, line by line. Headings are written as they are, and each case has its
+//! answer on one line. A case has ` ## ` between its parts, and `@` in a text for each line feed:
 //!
-//! - `race ## TEXT ## TABLE ## TURNS ## CONFLICTS`: how the search for the dearest run of the text's `main` ends, alone on
-//!   a new board, with these limits, and the cost of the best run;
+//! - `race ## TEXT ## TABLE ## TURNS ## CONFLICTS`: how the search for the dearest run of the text's `main` ends,
+//! alone on a new board, with these limits, and the cost of the best run;
 //! - `turns ## ..`: the same, and how many turns were settled.
 #![tactic(auto)]
 
 mod race;
-mod reading;
-mod wrong;
 
 use board_core::Board;
 use case_lines::{is_heading, parts};
+use case_plans::{Wrong, plan_of};
 use flow_graph::Plan;
 use ipet_peak::peak;
 use ipet_rows::{SoundRows, rows};
 use race_item::Limits;
 use std::alloc::{AllocError, Global};
 use std::io;
-use wrong::Wrong;
 
 fn main(rt: HostRuntime) -> io::Result<()> {
     for line in rt.lines(rt.alloc()) {
@@ -49,7 +47,7 @@ fn part<'l>(parts: &[&'l str], n: usize) -> &'l str {
 
 fn answered(alloc: Global, parts: &[&str]) -> Result<String, Wrong> {
     let limits = limits(part(parts, 3), part(parts, 4))?;
-    match reading::plan_of(alloc, part(parts, 1), part(parts, 2)) {
+    match plan_of(alloc, part(parts, 1), part(parts, 2)) {
         Ok(plan) => planned(alloc, part(parts, 0), limits, &plan),
         Err(wrong) => Err(wrong),
     }

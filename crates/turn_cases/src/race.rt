@@ -4,8 +4,8 @@ ghost use Rattle.std.specs.Prelude.{◌≡◌, ◌<◌};
 ghost use Rattle.race_item.specs.RaceLimits.{AreLimits};
 ghost use Rattle.board_core.specs.Calls.{IsOpenClaim};
 
-use crate::wrong::Wrong;
 use board_core::{Board, Cause, Claim, End, Event, Ticket};
+use case_plans::Wrong;
 use ipet_rows::SoundRows;
 use item_turn::Turner;
 use race_item::{Limits, Refuter};

@@ -10,12 +10,13 @@ use Rattle.c_tree.specs.declared.unit.RawShape.TheVariants as shape
 use Rattle.c_tree.specs.declared.unit.RawStmt.{RawStmt, Row_of-RawStmt, end_of-RawStmt, more_of-RawStmt, Held-RawStmt-For-2, None', Some'}
 use Rattle.c_tree.specs.declared.unit.RawStmt.TheVariants.{Empty, Declare, Assign, Call, Break, Continue, Return, If', While', Do', For', Group'}
 use Rattle.c_tree.specs.declared.unit.RawTarget.TheVariants as target
-use Rattle.c_tree.specs.Constants.{array_length, shape_length}
-use Rattle.c_tree.specs.Naming.{Scope, local_of, declared, opened, looping, past, stmt_locals, row_locals, held_locals, list_locals, behind, held_behind, list_behind, with_params}
-use Rattle.c_tree.specs.WellFormed.{Context, IsLength, WellFormedLocals, HasParams}
-use Rattle.c_tree.specs.Uses.{expr_uses, length_uses, declared_at, sized, list_uses, declarator_uses, stmt_uses, row_stmt_uses, held_uses, stmts_uses}
+use Rattle.c_tree.specs.Checking.Constants.{declared_length, shape_length}
+use Rattle.c_tree.specs.Checking.Naming.{Scope, local_of, scope_with_local, inner_scope, loop_scope, scope_past_list, stmt_locals, row_locals, held_locals, list_locals, scope_behind, held_behind, list_behind, with_params}
+use Rattle.c_tree.specs.Keeping.WellFormed.{Context, IsLength, WellFormedLocals, HasParams}
+use Rattle.c_tree.specs.Checking.Uses.{expr_uses, length_uses, declared_at, sized_use, list_uses, declarator_uses, stmt_uses, row_stmt_uses, held_uses, stmts_uses}
 use Rattle.typed_laws.proofs.Faultless.{AllClean, clean_parts}
-use Rattle.typed_laws.proofs.Inside.{Inside, append_nil, declared_inside}
+use Rattle.typed_laws.proofs.Inside.{Inside, declared_inside}
+use Rattle.std.proofs.lemmas.List.{append-nil}
 
 -- ---- lengths
 
@@ -26,8 +27,8 @@ locals_append (l ∷ ls) ms h g = (h.0, locals_append ls ms h.1 g)
 shape_is : (s : Scope) (constant : Bool) (t : Ty) (x : Spot) (sh : RawShape) → AllClean (declarator_uses s constant t x sh) → IsLength (shape_length sh)
 shape_is s constant t x (shape.Scalar e) clean = tt
 shape_is s constant t x (shape.Array e es) clean =
-    let after = declared s constant t x.name (Some (array_length e es)) in
-    let parts = clean_parts (length_uses s.known e) (declared_at s.known s.depth x ∷ (sized x e es true ∷ list_uses after.known es)) clean in
+    let after = scope_with_local s constant t x.name (Some (declared_length e es)) in
+    let parts = clean_parts (length_uses s.known e) (declared_at s.known s.depth x ∷ (sized_use x e es true ∷ list_uses after.known es)) clean in
     parts.1.1.0.0
 
 mutual
@@ -44,29 +45,29 @@ mutual
   stmt_lengths s (Continue at) clean = tt
   stmt_lengths s (Return at e) clean = tt
   stmt_lengths s (If' e a x b y) clean =
-      let t = opened (past s (row_locals x)) in
-      let parts = clean_parts (expr_uses s.known e) (row_stmt_uses (opened s) x ++ row_stmt_uses t y) clean in
-      let sides = clean_parts (row_stmt_uses (opened s) x) (row_stmt_uses t y) parts.1 in
-      locals_append (row_locals x) (row_locals y) (row_lengths (opened s) x sides.0) (row_lengths t y sides.1)
+      let t = inner_scope (scope_past_list s (row_locals x)) in
+      let parts = clean_parts (expr_uses s.known e) (row_stmt_uses (inner_scope s) x ++ row_stmt_uses t y) clean in
+      let sides = clean_parts (row_stmt_uses (inner_scope s) x) (row_stmt_uses t y) parts.1 in
+      locals_append (row_locals x) (row_locals y) (row_lengths (inner_scope s) x sides.0) (row_lengths t y sides.1)
   stmt_lengths s (While' at k e a x) clean =
-      row_lengths (looping s) x (clean_parts (expr_uses s.known e) (row_stmt_uses (looping s) x) clean.1).1
+      row_lengths (loop_scope s) x (clean_parts (expr_uses s.known e) (row_stmt_uses (loop_scope s) x) clean.1).1
   stmt_lengths s (Do' at k a x e) clean =
-      row_lengths (looping s) x (clean_parts (row_stmt_uses (looping s) x) (expr_uses s.known e) clean.1).0
+      row_lengths (loop_scope s) x (clean_parts (row_stmt_uses (loop_scope s) x) (expr_uses s.known e) clean.1).0
   stmt_lengths s (For' at k i e j a x) clean =
-      let p = opened s in
+      let p = inner_scope s in
       let t = held_behind p i in
       let u = held_behind t j in
-      let first = clean_parts (held_uses p i) (expr_uses t.known e ++ (held_uses t j ++ row_stmt_uses (looping u) x)) clean.1 in
-      let second = clean_parts (expr_uses t.known e) (held_uses t j ++ row_stmt_uses (looping u) x) first.1 in
-      let third = clean_parts (held_uses t j) (row_stmt_uses (looping u) x) second.1 in
-      locals_append (held_locals i) (held_locals j ++ row_locals x) (held_lengths p i first.0) (locals_append (held_locals j) (row_locals x) (held_lengths t j third.0) (row_lengths (looping u) x third.1))
-  stmt_lengths s (Group' a x) clean = row_lengths (opened s) x clean
+      let first = clean_parts (held_uses p i) (expr_uses t.known e ++ (held_uses t j ++ row_stmt_uses (loop_scope u) x)) clean.1 in
+      let second = clean_parts (expr_uses t.known e) (held_uses t j ++ row_stmt_uses (loop_scope u) x) first.1 in
+      let third = clean_parts (held_uses t j) (row_stmt_uses (loop_scope u) x) second.1 in
+      locals_append (held_locals i) (held_locals j ++ row_locals x) (held_lengths p i first.0) (locals_append (held_locals j) (row_locals x) (held_lengths t j third.0) (row_lengths (loop_scope u) x third.1))
+  stmt_lengths s (Group' a x) clean = row_lengths (inner_scope s) x clean
 
   row_lengths : {m : _} (s : Scope) (x : Row_of-RawStmt m) → AllClean (row_stmt_uses s x) → WellFormedLocals (row_locals x)
   row_lengths s end_of-RawStmt clean = tt
   row_lengths s (more_of-RawStmt x rest) clean =
-      let parts = clean_parts (stmt_uses s x) (row_stmt_uses (behind s x) rest) clean in
-      locals_append (stmt_locals x) (row_locals rest) (stmt_lengths s x parts.0) (row_lengths (behind s x) rest parts.1)
+      let parts = clean_parts (stmt_uses s x) (row_stmt_uses (scope_behind s x) rest) clean in
+      locals_append (stmt_locals x) (row_locals rest) (stmt_lengths s x parts.0) (row_lengths (scope_behind s x) rest parts.1)
 
   held_lengths : (s : Scope) (x : Held-RawStmt-For-2) → AllClean (held_uses s x) → WellFormedLocals (held_locals x)
   held_lengths s None' clean = tt
@@ -75,13 +76,13 @@ mutual
 pub list_lengths : (s : Scope) (xs : List RawStmt) → AllClean (stmts_uses s xs) → WellFormedLocals (list_locals xs)
 list_lengths s [] clean = tt
 list_lengths s (x ∷ xs) clean =
-    let parts = clean_parts (stmt_uses s x) (stmts_uses (behind s x) xs) clean in
-    locals_append (stmt_locals x) (list_locals xs) (stmt_lengths s x parts.0) (list_lengths (behind s x) xs parts.1)
+    let parts = clean_parts (stmt_uses s x) (stmts_uses (scope_behind s x) xs) clean in
+    locals_append (stmt_locals x) (list_locals xs) (stmt_lengths s x parts.0) (list_lengths (scope_behind s x) xs parts.1)
 
 -- ---- behind statements
 
-behind_locals : (s : Scope) (x : RawStmt) → (behind s x).locals ≡ s.locals ++ stmt_locals x
-unfolding behind stmt_locals
+behind_locals : (s : Scope) (x : RawStmt) → (scope_behind s x).locals ≡ s.locals ++ stmt_locals x
+unfolding scope_behind stmt_locals
 behind_locals s (Declare constant t x sh) = refl
 behind_locals s (Call (target.Declare constant t x) f es) = refl
 behind_locals s (Call target.Nothing f es) = refl
@@ -98,9 +99,9 @@ behind_locals s (For' at k i e j a x) = refl
 behind_locals s (Group' a x) = refl
 
 pub list_behind_locals : (s : Scope) (xs : List RawStmt) → (list_behind s xs).locals ≡ s.locals ++ list_locals xs
-list_behind_locals s [] = sym (append_nil s.locals)
+list_behind_locals s [] = sym (append-nil s.locals)
 list_behind_locals s (x ∷ xs) =
-    list_behind_locals (behind s x) xs ∙ ap (λ ls. ls ++ list_locals xs) (behind_locals s x) ∙ append_assoc s.locals (stmt_locals x) (list_locals xs)
+    list_behind_locals (scope_behind s x) xs ∙ ap (λ ls. ls ++ list_locals xs) (behind_locals s x) ∙ append_assoc s.locals (stmt_locals x) (list_locals xs)
 
 -- ---- parameters
 
@@ -117,15 +118,15 @@ has_params [] ls = tt
 has_params (p ∷ ps) ls = (refl, has_params ps ls)
 
 pub with_params_locals : (s : Scope) (ps : List RawParam) → (with_params s ps).locals ≡ s.locals ++ params_locals ps
-with_params_locals s [] = sym (append_nil s.locals)
+with_params_locals s [] = sym (append-nil s.locals)
 with_params_locals s (p ∷ ps) =
-    with_params_locals (declared s false p.ty p.spot.name None) ps ∙ append_assoc s.locals (local_of p.ty p.spot.name None ∷ []) (params_locals ps)
+    with_params_locals (scope_with_local s false p.ty p.spot.name None) ps ∙ append_assoc s.locals (local_of p.ty p.spot.name None ∷ []) (params_locals ps)
 
 pub with_params_looped : (s : Scope) (ps : List RawParam) → (with_params s ps).looped ≡ s.looped
 with_params_looped s [] = refl
-with_params_looped s (p ∷ ps) = with_params_looped (declared s false p.ty p.spot.name None) ps
+with_params_looped s (p ∷ ps) = with_params_looped (scope_with_local s false p.ty p.spot.name None) ps
 
 pub params_inside : (c : Context) (fs : List Func) (s : Scope) (ps : List RawParam) (ms : List Local) → Inside c fs s (params_locals ps ++ ms) → Inside c fs (with_params s ps) ms
 params_inside c fs s [] ms h = h
 params_inside c fs s (p ∷ ps) ms h =
-    params_inside c fs (declared s false p.ty p.spot.name None) ps ms (declared_inside c fs s false p.ty p.spot.name None (params_locals ps ++ ms) h)
+    params_inside c fs (scope_with_local s false p.ty p.spot.name None) ps ms (declared_inside c fs s false p.ty p.spot.name None (params_locals ps ++ ms) h)

@@ -13,12 +13,12 @@ use Rattle.c_tree.specs.declared.unit.RawFunc.{RawFunc}
 use Rattle.c_tree.specs.declared.unit.RawParam.{RawParam}
 use Rattle.c_tree.specs.declared.unit.RawTop.{RawTop}
 use Rattle.c_tree.specs.declared.unit.RawTop.TheVariants as top
-use Rattle.c_tree.specs.Constants.{array_length}
-use Rattle.c_tree.specs.Naming.{File, with_func, behind_top, func_of, funcs_of, globals_of, entry_number}
-use Rattle.c_tree.specs.Runs.{types_of, param_types, outer_types, entry_types}
-use Rattle.c_tree.specs.WellFormed.{HasParams}
-use Rattle.c_tree.specs.Refusals.{func_named, param_inputs, outer_count, outer_inputs}
-use Rattle.typed_laws.proofs.FormedFunctions.{func_params}
+use Rattle.c_tree.specs.Checking.Constants.{declared_length}
+use Rattle.c_tree.specs.Checking.Naming.{File, with_func, behind_top, func_in_file, funcs_of, globals_of, entry_number}
+use Rattle.c_tree.specs.Meaning.Runs.{types_of, param_types, outer_types, entry_types}
+use Rattle.c_tree.specs.Keeping.WellFormed.{HasParams}
+use Rattle.c_tree.specs.Checking.Refusals.{func_named, param_inputs, outer_count, outer_inputs}
+use Rattle.typed_laws.proofs.Formed.FormedFunctions.{func_params}
 
 -- ---- the function of a name
 
@@ -27,14 +27,14 @@ has_name entry f = bytes_eq f.name entry
 
 -- it is the function at this place, as some file scope makes it
 abbrev IsMadeAt : List Func → ℕ → RawFunc → Type 0
-IsMadeAt fs n g = (f : File) × (slice_get fs n ≡ Some (func_of f g))
+IsMadeAt fs n g = (f : File) × (slice_get fs n ≡ Some (func_in_file f g))
 
-named_first : (b : Bool) (k g : RawFunc) (o : Option RawFunc) (f : File) (fs : List Func) (n : ℕ) → (if b then Some k else o) ≡ Some g → (o ≡ Some g → IsMadeAt fs n g) → IsMadeAt (func_of f k ∷ fs) (cond (not b) (1 + n) 0) g
-named_first true k g o f fs n h later = let same : k ≡ g = cc in (f, ap (λ x. Some (func_of f x)) same)
+named_first : (b : Bool) (k g : RawFunc) (o : Option RawFunc) (f : File) (fs : List Func) (n : ℕ) → (if b then Some k else o) ≡ Some g → (o ≡ Some g → IsMadeAt fs n g) → IsMadeAt (func_in_file f k ∷ fs) (cond (not b) (1 + n) 0) g
+named_first true k g o f fs n h later = let same : k ≡ g = cc in (f, ap (λ x. Some (func_in_file f x)) same)
 named_first false k g o f fs n h later =
     let e : 1 + n ≡ suc n = omega arith in
     let found = later h in
-    (found.0, ap (slice_get (func_of f k ∷ fs)) e ∙ found.1)
+    (found.0, ap (slice_get (func_in_file f k ∷ fs)) e ∙ found.1)
 
 named_at : (entry : List ℕ) (f : File) (ts : List RawTop) (g : RawFunc) → func_named entry ts ≡ Some g → IsMadeAt (funcs_of f ts) (position_or_len (has_name entry) (funcs_of f ts)) g
 named_at entry f [] g h = absurd (cc)
@@ -49,14 +49,14 @@ entry_at entry f ts g h =
     let fs = funcs_of f ts in
     let n : ℕ = position_or_len (has_name entry) fs in
     let found = named_at entry f ts g h in
-    let within = slice_get_within fs n (func_of found.0 g) found.1 in
+    let within = slice_get_within fs n (func_in_file found.0 g) found.1 in
     let same = ap (λ b. unwrap_or (cond b (Some n) None) 0) (lt-ltb n (length fs) within) in
     (found.0, ap (slice_get fs) same ∙ found.1)
 
 pub entry_below : (entry : List ℕ) (f : File) (ts : List RawTop) (g : RawFunc) → func_named entry ts ≡ Some g → unwrap_or (entry_number (funcs_of f ts) entry) 0 < length (funcs_of f ts)
 entry_below entry f ts g h =
     let found = entry_at entry f ts g h in
-    slice_get_within (funcs_of f ts) (unwrap_or (entry_number (funcs_of f ts) entry) 0) (func_of found.0 g) found.1
+    slice_get_within (funcs_of f ts) (unwrap_or (entry_number (funcs_of f ts) entry) 0) (func_in_file found.0 g) found.1
 
 -- ---- inputs
 
@@ -69,20 +69,20 @@ length_params (suc n) (l ∷ ls) h = ap suc (length_params n ls h.1)
 pub entry_inputs : (entry : List ℕ) (f : File) (ts : List RawTop) (g : RawFunc) → func_named entry ts ≡ Some g → length (entry_types (slice_get (funcs_of f ts) (unwrap_or (entry_number (funcs_of f ts) entry) 0))) ≡ length (param_inputs (func_named entry ts))
 entry_inputs entry f ts g h =
     let found = entry_at entry f ts g h in
-    let made = func_of found.0 g in
+    let made = func_in_file found.0 g in
     ap (λ o. length (entry_types o)) found.1 ∙ length_params (length g.params) made.locals (func_params found.0 g)
     ∙ sym (length-map g.params (λ (p : RawParam). p.spot.at)) ∙ ap (λ o. length (param_inputs o)) (sym h)
 
-outer_length : (t : Ty) (at : ℕ) (e : Option RawExpr) → length (types_of t (option_map (λ l. array_length (Some l) None) e)) ≡ length (replicate (outer_count e) at)
+outer_length : (t : Ty) (at : ℕ) (e : Option RawExpr) → length (types_of t (option_map (λ l. declared_length (Some l) None) e)) ≡ length (replicate (outer_count e) at)
 outer_length t at None = refl
 outer_length t at (Some e) =
-    let n : ℕ = array_length (Some e) None in length-replicate n t ∙ sym (length-replicate n at)
+    let n : ℕ = declared_length (Some e) None in length-replicate n t ∙ sym (length-replicate n at)
 
 -- as many as the extern variables have numbers
 pub outer_same : (ts : List RawTop) → length (outer_types (globals_of ts)) ≡ length (outer_inputs ts)
 outer_same [] = refl
 outer_same (top.Outer constant t x e ∷ ts) =
-    let ns = types_of t (option_map (λ l. array_length (Some l) None) e) in
+    let ns = types_of t (option_map (λ l. declared_length (Some l) None) e) in
     length-append ns (outer_types (globals_of ts)) ∙ (λ i. outer_length t x.at e i + outer_same ts i) ∙ sym (length-append (replicate (outer_count e) x.at) (outer_inputs ts))
 outer_same (top.Global kept constant t x sh ∷ ts) = outer_same ts
 outer_same (top.Func g ∷ ts) = outer_same ts

@@ -6,10 +6,10 @@ use Rattle.std.proofs.lemmas.Bool.{eqb-true, leb-true, ltb-false, and_parts, or_
 use Rattle.std.proofs.lemmas.Bool.Decides.{leb_tells}
 use Rattle.c_tree.specs.declared.tree.Ty.{Ty}
 use Rattle.c_tree.specs.declared.unit.RawBound.{RawBound}
-use Rattle.c_tree.specs.Scopes.{Entity, Variable, Function}
-use Rattle.c_tree.specs.Naming.{is_bound}
-use Rattle.c_tree.specs.Uses.{Use, Read, Assigned, Called, Declared, Sized, Constant, Returned, Left, Looped}
-use Rattle.c_tree.specs.Refusals.{Fault, Arity, NoValue, LaterCall, ArrayLength, NoInit, BoundRange, Refusal, where_true, faults_of}
+use Rattle.c_tree.specs.Checking.Scopes.{Entity, Variable, Function}
+use Rattle.c_tree.specs.Checking.Naming.{is_bound}
+use Rattle.c_tree.specs.Checking.Uses.{Use, Read, Assigned, Called, Declared, Sized, Constant, Returned, Left, Looped}
+use Rattle.c_tree.specs.Checking.Refusals.{FaultKind, Arity, NoValue, LaterCall, ArrayLength, NoInit, BoundRange, PlacedFault, where_true, faults_of}
 use Rattle.std.specs.Option.{option_map_or}
 
 -- ---- what is asked of a use
@@ -66,12 +66,12 @@ pub none_of : {A : Type 0} (xs ys : List A) → xs ++ ys ≡ [] → (xs ≡ []) 
 none_of [] ys h = (refl, h)
 none_of (x ∷ xs) ys h = absurd (cc)
 
-pub not_there : (b : Bool) (k : Fault) (at : ℕ) → where_true b k at ≡ [] → b ≡ false
+pub not_there : (b : Bool) (k : FaultKind) (at : ℕ) → where_true b k at ≡ [] → b ≡ false
 not_there true k at h = absurd (cc)
 not_there false k at h = refl
 
 -- the first of several lists, and the others
-pub first_none : (b : Bool) (k : Fault) (at : ℕ) (rest : List Refusal) → where_true b k at ++ rest ≡ [] → (b ≡ false) × (rest ≡ [])
+pub first_none : (b : Bool) (k : FaultKind) (at : ℕ) (rest : List PlacedFault) → where_true b k at ++ rest ≡ [] → (b ≡ false) × (rest ≡ [])
 first_none b k at rest h = let parts = none_of (where_true b k at) rest h in (not_there b k at parts.0, parts.1)
 
 holds : (b : Bool) → not b ≡ false → b ≡ true

@@ -9,10 +9,10 @@ use Rattle.c_tree.specs.declared.unit.RawFunc.{RawFunc}
 use Rattle.c_tree.specs.declared.unit.RawShape.{RawShape}
 use Rattle.c_tree.specs.declared.unit.RawTop.{RawTop}
 use Rattle.c_tree.specs.declared.unit.RawTop.TheVariants as top
-use Rattle.c_tree.specs.Scopes.{Known}
-use Rattle.c_tree.specs.Constants.{array_length, shape_length}
-use Rattle.c_tree.specs.Naming.{File, with_global, with_func, behind_top, known_funcs, started, func_of, funcs_of, globals_of}
-use Rattle.c_tree.specs.Layouts.{Shape, Layout, shape_of, global_shapes}
+use Rattle.c_tree.specs.Checking.Scopes.{Known}
+use Rattle.c_tree.specs.Checking.Constants.{declared_length, shape_length}
+use Rattle.c_tree.specs.Checking.Naming.{File, with_global, with_func, behind_top, known_funcs, file_start, func_in_file, funcs_of, globals_of}
+use Rattle.c_tree.specs.Keeping.Layouts.{Shape, Layout, shape_of, global_shapes}
 use Rattle.typed_laws.proofs.Standing.{IsThere, IsFunction, AllStand, stand_append}
 
 pub get_seam : {A : Type 0} (xs : List A) (y : A) (ys : List A) → slice_get (xs ++ y ∷ ys) (length xs) ≡ Some y
@@ -39,9 +39,9 @@ pub record AtFile (globals : List Shape) (fs : List Func) (f : File) (before : L
 
 -- ---- functions
 
-func_there : (fs above : List Func) (n : ℕ) (f : File) (g : RawFunc) (rest : List Func) → length above ≡ n → fs ≡ above ++ func_of f g ∷ rest → IsFunction (slice_get fs n) (length g.params) g.result
+func_there : (fs above : List Func) (n : ℕ) (f : File) (g : RawFunc) (rest : List Func) → length above ≡ n → fs ≡ above ++ func_in_file f g ∷ rest → IsFunction (slice_get fs n) (length g.params) g.result
 func_there fs above n f g rest count all =
-    let here = ap (λ gs. slice_get gs n) all ∙ ap (λ k. slice_get (above ++ func_of f g ∷ rest) k) (sym count) ∙ get_seam above (func_of f g) rest in
+    let here = ap (λ gs. slice_get gs n) all ∙ ap (λ k. slice_get (above ++ func_in_file f g ∷ rest) k) (sym count) ∙ get_seam above (func_in_file f g) rest in
     subst (λ o. IsFunction o (length g.params) g.result) (sym here) (refl, refl)
 
 -- the functions of the unit, known before all
@@ -53,11 +53,11 @@ funcs_stand globals fs above n f (top.Global kept constant t x sh ∷ ts) count 
     funcs_stand globals fs above n (behind_top f (top.Global kept constant t x sh)) ts count all ls
 funcs_stand globals fs above n f (top.Func g ∷ ts) count all ls =
     let rest = funcs_of (with_func f g) ts in
-    (func_there fs above n f g rest count all, funcs_stand globals fs (above ++ func_of f g ∷ []) (n + 1) (with_func f g) ts (length_more above (func_of f g) n count) (all ∙ sym (append_assoc above (func_of f g ∷ []) rest)) ls)
+    (func_there fs above n f g rest count all, funcs_stand globals fs (above ++ func_in_file f g ∷ []) (n + 1) (with_func f g) ts (length_more above (func_in_file f g) n count) (all ∙ sym (append_assoc above (func_in_file f g ∷ []) rest)) ls)
 
-pub started_at : (ts : List RawTop) → AtFile (global_shapes (globals_of ts)) (funcs_of (started ts) ts) (started ts) [] [] ts
+pub started_at : (ts : List RawTop) → AtFile (global_shapes (globals_of ts)) (funcs_of (file_start ts) ts) (file_start ts) [] [] ts
 started_at ts = record {
-  stand = funcs_stand (global_shapes (globals_of ts)) (funcs_of (started ts) ts) [] 0 (started ts) ts refl refl;
+  stand = funcs_stand (global_shapes (globals_of ts)) (funcs_of (file_start ts) ts) [] 0 (file_start ts) ts refl refl;
   more_globals = refl;
   count_globals = refl;
   more_funcs = refl;
@@ -70,13 +70,13 @@ module _ (globals : List Shape) (fs : List Func) where
   func_stands f g before above ts h ls =
       stand_append (with_locals globals ls) fs f.known _ (h.stand ls) (func_there fs above f.funcs f g (funcs_of (with_func f g) ts) h.count_funcs h.more_funcs, tt)
 
-  pub behind_func : (f : File) (g : RawFunc) (before : List Shape) (above : List Func) (ts : List RawTop) → AtFile globals fs f before above (top.Func g ∷ ts) → AtFile globals fs (with_func f g) before (above ++ func_of f g ∷ []) ts
+  pub behind_func : (f : File) (g : RawFunc) (before : List Shape) (above : List Func) (ts : List RawTop) → AtFile globals fs f before above (top.Func g ∷ ts) → AtFile globals fs (with_func f g) before (above ++ func_in_file f g ∷ []) ts
   behind_func f g before above ts h = record {
     stand = func_stands f g before above ts h;
     more_globals = h.more_globals;
     count_globals = h.count_globals;
-    more_funcs = h.more_funcs ∙ sym (append_assoc above (func_of f g ∷ []) (funcs_of (with_func f g) ts));
-    count_funcs = length_more above (func_of f g) f.funcs h.count_funcs;
+    more_funcs = h.more_funcs ∙ sym (append_assoc above (func_in_file f g ∷ []) (funcs_of (with_func f g) ts));
+    count_funcs = length_more above (func_in_file f g) f.funcs h.count_funcs;
   }
 
   -- ---- globals
@@ -102,9 +102,9 @@ module _ (globals : List Shape) (fs : List Func) where
   is_some_map (Some x) n = refl
 
   pub behind_outer : (f : File) (constant : Bool) (t : Ty) (x : Spot) (e : Option RawExpr) (before : List Shape) (above : List Func) (ts : List RawTop) → AtFile globals fs f before above (top.Outer constant t x e ∷ ts)
-      → AtFile globals fs (behind_top f (top.Outer constant t x e)) (before ++ shape_of t (option_map (λ l. array_length (Some l) None) e) ∷ []) above ts
+      → AtFile globals fs (behind_top f (top.Outer constant t x e)) (before ++ shape_of t (option_map (λ l. declared_length (Some l) None) e) ∷ []) above ts
   behind_outer f constant t x e before above ts h =
-      behind_global f constant x.name (is_some e) t (option_map (λ l. array_length (Some l) None) e) before above ts h.stand (is_some_map e (λ l. array_length (Some l) None)) h.more_globals h.count_globals h.more_funcs h.count_funcs
+      behind_global f constant x.name (is_some e) t (option_map (λ l. declared_length (Some l) None) e) before above ts h.stand (is_some_map e (λ l. declared_length (Some l) None)) h.more_globals h.count_globals h.more_funcs h.count_funcs
 
   pub behind_inner : (f : File) (kept constant : Bool) (t : Ty) (x : Spot) (sh : RawShape) (before : List Shape) (above : List Func) (ts : List RawTop) → AtFile globals fs f before above (top.Global kept constant t x sh ∷ ts)
       → AtFile globals fs (behind_top f (top.Global kept constant t x sh)) (before ++ shape_of t (shape_length sh) ∷ []) above ts

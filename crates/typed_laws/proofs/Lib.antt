@@ -1,21 +1,9 @@
-pub mod FairLexemes
-pub mod ShapedLayers
-pub mod ShapedExpressions
-pub mod ShapedStatements
-pub mod ShapedUnits
+pub mod Shaped
 pub mod Faultless
 mod Standing
-pub mod FormedExpressions
+pub mod Formed
 mod Inside
-mod FormedCalls
-mod FormedDeclarations
-mod FormedLoops
-mod FormedStatements
 pub mod DeclaredLocals
 pub mod FileScope
 pub mod SpansOfFunctions
-mod ConstantRanges
-mod FormedGlobals
-pub mod FormedFunctions
 pub mod EntryFunction
-pub mod FormedPrograms

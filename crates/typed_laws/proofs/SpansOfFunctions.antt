@@ -10,10 +10,10 @@ use Rattle.c_tree.specs.declared.unit.RawFunc.{RawFunc}
 use Rattle.c_tree.specs.declared.unit.RawShape.{RawShape}
 use Rattle.c_tree.specs.declared.unit.RawTop.{RawTop}
 use Rattle.c_tree.specs.declared.unit.RawTop.TheVariants as top
-use Rattle.c_tree.specs.Spans.{func_span, spans}
-use Rattle.c_tree.specs.Refusals.{Span, wide}
+use Rattle.c_tree.specs.Meaning.Spans.{func_span, spans}
+use Rattle.c_tree.specs.Checking.Refusals.{Span, wide_func_faults}
 use Rattle.typed_laws.proofs.Faultless.{first_none}
-use Rattle.typed_laws.proofs.Inside.{append_nil}
+use Rattle.std.proofs.lemmas.List.{append-nil}
 
 -- the spans of functions, over those above them
 abbrev pub own_spans : List ℕ → List Func → List ℕ
@@ -21,27 +21,10 @@ own_spans ss [] = []
 own_spans ss (f ∷ fs) = func_span ss f ∷ own_spans (ss ++ func_span ss f ∷ []) fs
 
 pub spans_are : (ss : List ℕ) (fs : List Func) → spans ss fs ≡ ss ++ own_spans ss fs
-spans_are ss [] = sym (append_nil ss)
+spans_are ss [] = sym (append-nil ss)
 spans_are ss (f ∷ fs) =
     spans_are (ss ++ func_span ss f ∷ []) fs ∙ append_assoc ss (func_span ss f ∷ []) (own_spans (ss ++ func_span ss f ∷ []) fs)
 
-pub spans_more : (ss : List ℕ) (fs : List Func) (f : Func) → spans ss (fs ++ f ∷ []) ≡ spans ss fs ++ func_span (spans ss fs) f ∷ []
-spans_more ss [] f = refl
-spans_more ss (g ∷ fs) f = spans_more (ss ++ func_span ss g ∷ []) fs f
-
--- a declaration that is no function has no span
-wide_none : (ts : List RawTop) → wide [] ts ≡ []
-wide_none [] = refl
-wide_none (t ∷ ts) = refl
-
-pub wide_outer : (ss : List ℕ) (constant : Bool) (t : Ty) (x : Spot) (e : Option RawExpr) (ts : List RawTop) → wide ss (top.Outer constant t x e ∷ ts) ≡ wide ss ts
-wide_outer [] constant t x e ts = sym (wide_none ts)
-wide_outer (s ∷ ss) constant t x e ts = refl
-
-pub wide_global : (ss : List ℕ) (kept constant : Bool) (t : Ty) (x : Spot) (sh : RawShape) (ts : List RawTop) → wide ss (top.Global kept constant t x sh ∷ ts) ≡ wide ss ts
-wide_global [] kept constant t x sh ts = sym (wide_none ts)
-wide_global (s ∷ ss) kept constant t x sh ts = refl
-
-pub none_wide : (s : ℕ) (ss : List ℕ) (g : RawFunc) (ts : List RawTop) → wide (s ∷ ss) (top.Func g ∷ ts) ≡ [] → (s ≤ 2 ^ 64) × (wide ss ts ≡ [])
+pub none_wide : (s : ℕ) (ss : List ℕ) (g : RawFunc) (ts : List RawTop) → wide_func_faults (s ∷ ss) (top.Func g ∷ ts) ≡ [] → (s ≤ 2 ^ 64) × (wide_func_faults ss ts ≡ [])
 none_wide s ss g ts h =
-    let parts = first_none (nat_lt (2 ^ 64) s) Span g.spot.at (wide ss ts) h in (ltb-false (2 ^ 64) s parts.0, parts.1)
+    let parts = first_none (nat_lt (2 ^ 64) s) Span g.spot.at (wide_func_faults ss ts) h in (ltb-false (2 ^ 64) s parts.0, parts.1)

@@ -5,8 +5,8 @@ use Rattle.std.specs.Option.{option_or}
 use Rattle.c_tree.specs.declared.tree.Ty.{Ty}
 use Rattle.c_tree.specs.declared.program.Local.{Local as Declared}
 use Rattle.c_tree.specs.declared.program.Func.{Func}
-use Rattle.c_tree.specs.Scopes.{Entity, Variable, Function, Known, latest, entity_of, variable}
-use Rattle.c_tree.specs.Layouts.{Shape, Layout, shape, shape_of, local_shapes, is_scalar, is_array}
+use Rattle.c_tree.specs.Checking.Scopes.{Entity, Variable, Function, Known, latest, entity_of, variable}
+use Rattle.c_tree.specs.Keeping.Layouts.{Shape, Layout, shape, shape_of, local_shapes, is_scalar, is_array}
 use Rattle.typed_laws.proofs.Faultless.{NamesVariable}
 
 -- ---- what a name stands for

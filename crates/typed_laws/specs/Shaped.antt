@@ -1,6 +1,6 @@
--- What the grammar sees to in a unit before its names are looked at: each constant lies in the range of its type, each `op=` has one of its
--- operators, no list of an array is empty, and a `for` begins with a declaration that has an initialiser, or an assignment, and steps by an
--- assignment.
+-- What the grammar sees to in a unit before its names are looked at: each constant lies in the range of its type, each
+-- `op=` has one of its operators, no list of an array is empty, and a `for` begins with a declaration that has an
+-- initialiser, or an assignment, and steps by an assignment.
 use Rattle.std.specs.Prelude.{◌≤◌, Bool, true, false, IsTrue, List, [], ◌∷◌, length, Option, Some, None, pos}
 use Rattle.c_tree.specs.declared.unit.RawExpr.{RawExpr, Row_of-RawExpr, end_of-RawExpr, more_of-RawExpr}
 use Rattle.c_tree.specs.declared.unit.RawExpr.TheVariants.{Num, Name, Elem', Un', Cast', Bin', Cond', Paren'}
@@ -8,13 +8,34 @@ use Rattle.c_tree.specs.declared.unit.RawPlace.{RawPlace}
 use Rattle.c_tree.specs.declared.unit.RawPlace.TheVariants as place
 use Rattle.c_tree.specs.declared.unit.RawShape.{RawShape}
 use Rattle.c_tree.specs.declared.unit.RawShape.TheVariants as shape
-use Rattle.c_tree.specs.declared.unit.RawStmt.{RawStmt, Row_of-RawStmt, end_of-RawStmt, more_of-RawStmt, Held-RawStmt-For-2, None', Some'}
-use Rattle.c_tree.specs.declared.unit.RawStmt.TheVariants.{Empty, Declare, Assign, Call, Break, Continue, Return, If', While', Do', For', Group'}
+use Rattle.c_tree.specs.declared.unit.RawStmt.{
+  RawStmt,
+  Row_of-RawStmt,
+  end_of-RawStmt,
+  more_of-RawStmt,
+  Held-RawStmt-For-2,
+  None',
+  Some',
+}
+use Rattle.c_tree.specs.declared.unit.RawStmt.TheVariants.{
+  Empty,
+  Declare,
+  Assign,
+  Call,
+  Break,
+  Continue,
+  Return,
+  If',
+  While',
+  Do',
+  For',
+  Group',
+}
 use Rattle.c_tree.specs.declared.unit.RawTop.{RawTop}
 use Rattle.c_tree.specs.declared.unit.RawTop.TheVariants as top
 use Rattle.c_tree.specs.declared.unit.Unit.{Unit as Tree}
-use Rattle.c_tree.specs.Values.{is_of}
-use Rattle.c_tree.specs.WellFormed.{is_assigning}
+use Rattle.c_tree.specs.Meaning.Values.{is_of}
+use Rattle.c_tree.specs.Keeping.WellFormed.{is_assigning}
 
 -- ---- expressions
 

@@ -1,7 +1,7 @@
 //! Programs of the code.
 
-ghost use Rattle.c_tree.specs.Checked.{IsProgram};
-ghost use Rattle.c_tree.specs.WellFormed.{WellFormed};
+ghost use Rattle.c_tree.specs.Checking.Checked.{IsProgram};
+ghost use Rattle.c_tree.specs.Keeping.WellFormed.{WellFormed};
 
 use crate::laws::typed::typed_programs_are_well_formed;
 use c_tree::Program;

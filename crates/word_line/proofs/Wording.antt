@@ -5,14 +5,14 @@ use Rattle.std.proofs.lemmas.Slice.Eq.{bytes_eq-Decides}
 use Rattle.std.proofs.lemmas.List.{append-nil}
 use Rattle.word_line.specs.declared.job.Mode.{Mode}
 use Rattle.word_line.specs.declared.job.Job.{Job}
-use Rattle.word_line.specs.Words.{begins_with_dash, is_flag, mode_of, named, NoDash, NoFlag, asked, AskFor}
+use Rattle.word_line.specs.Words.{begins_with_dash, is_flag, mode_of, named_words, NoDash, NoFlag, job_of_words, AskFor}
 use Rattle.word_line.specs.Reading.{pair, with_pairs, job_of}
 
 -- ---- what is read is asked for
 
 -- what was taken from the front, and what is left, are the words
 record Parted (name : List ℕ) (words : List (List ℕ)) (taken : Option (List ℕ) × List (List ℕ)) : Type 0 where
-  whole : words ≡ named name taken.0 ++ taken.1
+  whole : words ≡ named_words name taken.0 ++ taken.1
   no_flag : IfSome taken.0 NoFlag
 
 parted : (name : List ℕ) (words : List (List ℕ)) → Parted name words (pair name words)
@@ -64,7 +64,7 @@ with_file word file m words j mode h =
       costs = _;
       entry = _;
       input = _;
-      spelled = ap (λ x. word ∷ file ∷ x) (three _ _ _ _ _ _ costs.whole entry.whole (input.whole ∙ ap (λ x. named (codes "--input") (pair (codes "--input") (pair (codes "--entry") (pair (codes "--costs") words).1).1).0 ++ x) end.none_left));
+      spelled = ap (λ x. word ∷ file ∷ x) (three _ _ _ _ _ _ costs.whole entry.whole (input.whole ∙ ap (λ x. named_words (codes "--input") (pair (codes "--input") (pair (codes "--entry") (pair (codes "--costs") words).1).1).0 ++ x) end.none_left));
       of_mode = mode;
       no_flags = (end.no_dash, costs.no_flag, entry.no_flag, input.no_flag);
       of_job = end.same;
@@ -82,31 +82,31 @@ is_asked (word ∷ file ∷ words) j h = tested (mode_of word) refl h
 -- ---- what is asked for is read
 
 taken : (name : List ℕ) (value : Option (List ℕ)) (rest : List (List ℕ)) → bytes_eq name name ≡ true → IfSome value NoFlag → pair name rest ≡ (None, rest)
-    → pair name (named name value ++ rest) ≡ (value, rest)
+    → pair name (named_words name value ++ rest) ≡ (value, rest)
 taken name None rest same flag none = none
 taken name (Some value) rest same flag none = ap (λ b. if b && not (is_flag value) then (Some value, rest) else (None, name ∷ value ∷ rest)) same
     ∙ ap (λ b. if not b then (Some value, rest) else (None, name ∷ value ∷ rest)) flag
 
-no_costs : (entry input : Option (List ℕ)) → let rest = named (codes "--entry") entry ++ named (codes "--input") input in pair (codes "--costs") rest ≡ (None, rest)
+no_costs : (entry input : Option (List ℕ)) → let rest = named_words (codes "--entry") entry ++ named_words (codes "--input") input in pair (codes "--costs") rest ≡ (None, rest)
 no_costs None None = refl
 no_costs None (Some i) = refl
 no_costs (Some e) None = refl
 no_costs (Some e) (Some i) = refl
 
-no_entry : (input : Option (List ℕ)) → pair (codes "--entry") (named (codes "--input") input) ≡ (None, named (codes "--input") input)
+no_entry : (input : Option (List ℕ)) → pair (codes "--entry") (named_words (codes "--input") input) ≡ (None, named_words (codes "--input") input)
 no_entry None = refl
 no_entry (Some i) = refl
 
 read_pairs : (m : Mode) (file : List ℕ) (words after_costs after_entry : List (List ℕ)) (costs entry input : Option (List ℕ)) → NoDash file
     → pair (codes "--costs") words ≡ (costs, after_costs) → pair (codes "--entry") after_costs ≡ (entry, after_entry) → pair (codes "--input") after_entry ≡ (input, [])
-    → with_pairs file words m ≡ Some (asked m file costs entry input)
+    → with_pairs file words m ≡ Some (job_of_words m file costs entry input)
 read_pairs m file words after_costs after_entry costs entry input dash h k l = rw (h, k, l, dash)
 
 pub is_read : (words : List (List ℕ)) (j : Job) → AskFor words j → job_of words ≡ Some j
 is_read words j a =
-    let from_input = named (codes "--input") a.input in
-    let from_entry = named (codes "--entry") a.entry ++ from_input in
-    let pairs = named (codes "--costs") a.costs ++ from_entry in
+    let from_input = named_words (codes "--input") a.input in
+    let from_entry = named_words (codes "--entry") a.entry ++ from_input in
+    let pairs = named_words (codes "--costs") a.costs ++ from_entry in
     let input = taken (codes "--input") a.input [] refl a.no_flags.3 refl in
     let entry = taken (codes "--entry") a.entry from_input refl a.no_flags.2 (no_entry a.input) in
     let costs = taken (codes "--costs") a.costs from_entry refl a.no_flags.1 (no_costs a.entry a.input) in

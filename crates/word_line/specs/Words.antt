@@ -1,5 +1,26 @@
 -- What the words of the command line ask for.
-use Rattle.std.specs.Prelude.{◌≡◌, ℕ, Bool, false, ◌&&◌, List, [], ◌∷◌, ◌++◌, length, Option, Some, None, unwrap_or, IfSome, if◌then◌else◌, bytes_eq, ◌==◌, nat_lt, codes}
+use Rattle.std.specs.Prelude.{
+  ◌≡◌,
+  ℕ,
+  Bool,
+  false,
+  ◌&&◌,
+  List,
+  [],
+  ◌∷◌,
+  ◌++◌,
+  length,
+  Option,
+  Some,
+  None,
+  unwrap_or,
+  IfSome,
+  if◌then◌else◌,
+  bytes_eq,
+  ◌==◌,
+  nat_lt,
+  codes,
+}
 use Rattle.word_line.specs.declared.job.Mode.{Mode}
 use Rattle.word_line.specs.declared.job.Mode.TheVariants.{Bound, Ipet, Blocks, Run, Print}
 use Rattle.word_line.specs.declared.job.Job.{Job}
@@ -29,13 +50,13 @@ abbrev pub NoFlag : List ℕ → Type 0
 NoFlag word = is_flag word ≡ false
 
 -- the words for a value with a name, where there is one
-abbrev pub named : List ℕ → Option (List ℕ) → List (List ℕ)
-named name None = []
-named name (Some value) = name ∷ value ∷ []
+abbrev pub named_words : List ℕ → Option (List ℕ) → List (List ℕ)
+named_words name None = []
+named_words name (Some value) = name ∷ value ∷ []
 
 -- the job of these words. An entry that is missing is `main`, and an input that is missing is empty
-abbrev pub asked : Mode → List ℕ → Option (List ℕ) → Option (List ℕ) → Option (List ℕ) → Job
-asked mode file costs entry input = record {
+abbrev pub job_of_words : Mode → List ℕ → Option (List ℕ) → Option (List ℕ) → Option (List ℕ) → Job
+job_of_words mode file costs entry input = record {
   mode = mode;
   file = Some file;
   costs = costs;
@@ -60,7 +81,8 @@ pub record AskFor (words : List (List ℕ)) (job : Job) : Type 0 where
   pub entry : Option (List ℕ)
   pub input : Option (List ℕ)
   pub spelled : words ≡ word ∷ file
-      ∷ (named (codes "--costs") costs ++ (named (codes "--entry") entry ++ named (codes "--input") input))
+      ∷ (named_words (codes "--costs") costs ++ (named_words (codes "--entry") entry ++ named_words (codes "--input")
+      input))
   pub of_mode : mode_of word ≡ Some mode
   pub no_flags : NoDash file × IfSome costs NoFlag × IfSome entry NoFlag × IfSome input NoFlag
-  pub of_job : job ≡ asked mode file costs entry input
+  pub of_job : job ≡ job_of_words mode file costs entry input

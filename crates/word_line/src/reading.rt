@@ -1,8 +1,23 @@
 //! From words to a job.
 
-ghost use Rattle.std.specs.Prelude.{◌≡◌, ◌≢◌, List, ℕ, Some, None, IsTrue, map, option_copied, unwrap_or, IfOk, IfSome, IfErr, IsErrOf};
+ghost use Rattle.std.specs.Prelude.{
+  ◌≡◌,
+  ◌≢◌,
+  List,
+  ℕ,
+  Some,
+  None,
+  IsTrue,
+  map,
+  option_copied,
+  unwrap_or,
+  IfOk,
+  IfSome,
+  IfErr,
+  IsErrOf,
+};
 ghost use Rattle.word_line.specs.declared.job.Job.{Job};
-ghost use Rattle.word_line.specs.Words.{AskFor, mode_of, is_flag, begins_with_dash, asked};
+ghost use Rattle.word_line.specs.Words.{AskFor, mode_of, is_flag, begins_with_dash, job_of_words};
 ghost use Rattle.word_line.specs.Jobs.{is_built, IsJob};
 ghost use Rattle.word_line.specs.Reading.{job_of, pair};
 
@@ -79,7 +94,8 @@ fn job(
     input: Option<&str>,
 ) -> Result<Job, AllocError>
     ensures { IfOk result (λ job. job
-        ≡ asked mode file.now (option_copied costs.entry) (option_copied entry.entry) (option_copied input.entry)) }
+        ≡ job_of_words mode file.now (option_copied costs.entry) (option_copied entry.entry)
+        (option_copied input.entry)) }
 {
     Ok(Job {
         mode,

@@ -2,7 +2,7 @@
 
 ghost use Rattle.std.specs.Prelude.{◌≡◌, ◌<◌, ◌+◌, ◌*◌, ◌+ℤ◌, ◌*ℤ◌, ℕ, ℤ, Some};
 ghost use Rattle.c_tree.specs.declared.value.Value.TheVariants.{Int, Unsigned};
-ghost use Rattle.c_tree.specs.Operators.{int_quotient, int_remainder, quotient, remainder};
+ghost use Rattle.c_tree.specs.Meaning.Operators.{int_quotient, int_remainder, quotient, remainder};
 
 /// Where both are defined, the quotient times the divisor, and the remainder added, is the dividend (C11 6.5.5).
 pub fn divisions_are_exact()

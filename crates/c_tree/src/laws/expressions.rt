@@ -9,9 +9,9 @@ ghost use Rattle.c_tree.specs.declared.tree.Var.TheVariants.{Local};
 ghost use Rattle.c_tree.specs.declared.tree.Expr.TheVariants.{Num, Elem, Un, Cast, Bin, Cond};
 ghost use Rattle.c_tree.specs.declared.value.Value.TheVariants.{Unsigned};
 ghost use Rattle.c_tree.specs.declared.value.Slot.TheVariants.{Unset, Number, Numbers};
-ghost use Rattle.c_tree.specs.Literals.{plus, minus};
-ghost use Rattle.c_tree.specs.Expressions.{type_of, val};
-ghost use Rattle.c_tree.specs.Worked.{num, local, store, unset, holds, lists};
+ghost use Rattle.c_tree.specs.Meaning.Literals.{plus, minus};
+ghost use Rattle.c_tree.specs.Meaning.Expressions.{type_of, val};
+ghost use Rattle.c_tree.specs.Meaning.Worked.{num, local, store, unset, holds, lists};
 
 /// A name and an element have what the store has; an unset name and an element outside the array are undefined.
 pub fn reads()

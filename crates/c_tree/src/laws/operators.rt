@@ -5,8 +5,8 @@ ghost use Rattle.std.specs.Prelude.{◌≡◌, Some, None};
 ghost use Rattle.c_tree.specs.declared.tree.UnOp.TheVariants as un;
 ghost use Rattle.c_tree.specs.declared.tree.BinOp.TheVariants as bin;
 ghost use Rattle.c_tree.specs.declared.value.Value.TheVariants.{Unsigned};
-ghost use Rattle.c_tree.specs.Literals.{plus, minus};
-ghost use Rattle.c_tree.specs.Operators.{unary, binary, operated};
+ghost use Rattle.c_tree.specs.Meaning.Literals.{plus, minus};
+ghost use Rattle.c_tree.specs.Meaning.Operators.{unary, binary, operation_value};
 
 /// `+` (C11 6.5.6).
 pub fn sums()
@@ -170,16 +170,16 @@ pub fn relations()
 
 /// `&&` and `||` (C11 6.5.13, 6.5.14): the `int` 1 or 0, and the right operand only where the left does not decide.
 pub fn connectives()
-    ensures both { operated bin.Both (Some (minus 2147483648)) (Some (Unsigned 4294967295)) ≡ Some (plus 1) }
-    ensures both_not_right { operated bin.Both (Some (Unsigned 32)) (Some (plus 0)) ≡ Some (plus 0) }
-    ensures both_not_left { operated bin.Both (Some (plus 0)) None ≡ Some (plus 0) }
-    ensures both_undefined { operated bin.Both (Some (plus 1)) None ≡ None }
-    ensures both_left_undefined { operated bin.Both None (Some (plus 0)) ≡ None }
-    ensures either_left { operated bin.Either (Some (minus 1)) None ≡ Some (plus 1) }
-    ensures either_right { operated bin.Either (Some (Unsigned 0)) (Some (plus 31)) ≡ Some (plus 1) }
-    ensures neither { operated bin.Either (Some (plus 0)) (Some (Unsigned 0)) ≡ Some (plus 0) }
-    ensures either_undefined { operated bin.Either (Some (plus 0)) None ≡ None }
-    ensures either_left_undefined { operated bin.Either None (Some (plus 1)) ≡ None }
+    ensures both { operation_value bin.Both (Some (minus 2147483648)) (Some (Unsigned 4294967295)) ≡ Some (plus 1) }
+    ensures both_not_right { operation_value bin.Both (Some (Unsigned 32)) (Some (plus 0)) ≡ Some (plus 0) }
+    ensures both_not_left { operation_value bin.Both (Some (plus 0)) None ≡ Some (plus 0) }
+    ensures both_undefined { operation_value bin.Both (Some (plus 1)) None ≡ None }
+    ensures both_left_undefined { operation_value bin.Both None (Some (plus 0)) ≡ None }
+    ensures either_left { operation_value bin.Either (Some (minus 1)) None ≡ Some (plus 1) }
+    ensures either_right { operation_value bin.Either (Some (Unsigned 0)) (Some (plus 31)) ≡ Some (plus 1) }
+    ensures neither { operation_value bin.Either (Some (plus 0)) (Some (Unsigned 0)) ≡ Some (plus 0) }
+    ensures either_undefined { operation_value bin.Either (Some (plus 0)) None ≡ None }
+    ensures either_left_undefined { operation_value bin.Either None (Some (plus 1)) ≡ None }
 {}
 
 /// `+`, `-`, `~` and `!` (C11 6.5.3.3).

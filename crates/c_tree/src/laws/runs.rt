@@ -6,13 +6,13 @@ ghost use Rattle.c_tree.specs.declared.tree.BinOp.TheVariants as bin;
 ghost use Rattle.c_tree.specs.declared.tree.Var.TheVariants.{Local};
 ghost use Rattle.c_tree.specs.declared.tree.Target.TheVariants as target;
 ghost use Rattle.c_tree.specs.declared.tree.Stmt.TheVariants.{Call};
-ghost use Rattle.c_tree.specs.Runs.{run, IsUndefined, IsOverBound};
-ghost use Rattle.c_tree.specs.Worked.{num, ones, input, cost_at};
-ghost use Rattle.c_tree.specs.Worked.{return_of_zero, two_thresholds, two_thresholds_costs, overflow_guard};
-ghost use Rattle.c_tree.specs.Worked.{counted_while, counted_do, triangular_loops, triangular_loops_costs};
-ghost use Rattle.c_tree.specs.Worked.{division_by_zero, returned, guarded_division, masked_index};
-ghost use Rattle.c_tree.specs.Worked.{missing_result, clamp_filter, clamp_filter_costs, samples};
-ghost use Rattle.c_tree.specs.Worked.{one_or_x, own_initialiser, initialised_by_call};
+ghost use Rattle.c_tree.specs.Meaning.Runs.{run, IsUndefined, IsOverBound};
+ghost use Rattle.c_tree.specs.Meaning.Worked.{num, ones, input, cost_at};
+ghost use Rattle.c_tree.specs.Meaning.Worked.{return_of_zero, two_thresholds, two_thresholds_costs, overflow_guard};
+ghost use Rattle.c_tree.specs.Meaning.Worked.{counted_while, counted_do, triangular_loops, triangular_loops_costs};
+ghost use Rattle.c_tree.specs.Meaning.Worked.{division_by_zero, op_program, guarded_division, masked_index};
+ghost use Rattle.c_tree.specs.Meaning.Worked.{missing_result, clamp_filter, clamp_filter_costs, samples};
+ghost use Rattle.c_tree.specs.Meaning.Worked.{one_or_x, own_initialiser, initialised_by_call};
 
 /// Runs without a loop.
 pub fn straight_runs()
@@ -51,8 +51,8 @@ pub fn undefined_runs()
     ensures by_zero { run division_by_zero (input (pos 1 ∷ [])) ≡ IsUndefined }
 
     // -2^31 by -1 is out of range, for the remainder too
-    ensures least { run (returned bin.Div) (input (neg_ℤ (pos 2147483648) ∷ neg_ℤ (pos 1) ∷ [])) ≡ IsUndefined }
-    ensures least_rest { run (returned bin.Rem) (input (neg_ℤ (pos 2147483648) ∷ neg_ℤ (pos 1) ∷ [])) ≡ IsUndefined }
+    ensures least { run (op_program bin.Div) (input (neg_ℤ (pos 2147483648) ∷ neg_ℤ (pos 1) ∷ [])) ≡ IsUndefined }
+    ensures least_rest { run (op_program bin.Rem) (input (neg_ℤ (pos 2147483648) ∷ neg_ℤ (pos 1) ∷ [])) ≡ IsUndefined }
 
     // the right operand of `&&` is not evaluated where the left is 0: the declaration, the condition, the return
     ensures guarded { cost_at guarded_division ones (pos 0 ∷ []) ≡ Some 3 }
@@ -69,8 +69,8 @@ pub fn call_runs()
     ensures missing { run (missing_result (Call (target.Assign (Local 0)) 0 [])) (input []) ≡ IsUndefined }
     ensures not_used { cost_at (missing_result (Call target.Nothing 0 [])) ones [] ≡ Some 3 }
 
-    // four turns of 2 + 6 + (2 + 2 + 7) + 2 + 2 + 14 + 2 = 39, and the declarations, `i = 0`, the last condition and the
-    // return, each 2
+    // four turns of 2 + 6 + (2 + 2 + 7) + 2 + 2 + 14 + 2 = 39, and the declarations, `i = 0`, the last condition and
+    // the return, each 2
     ensures filter { cost_at clamp_filter clamp_filter_costs (samples 200 2) ≡ Some 164 }
 {}
 
@@ -81,8 +81,8 @@ pub fn own_initialisers()
     ensures first_turn { run own_initialiser (input (pos 1 ∷ [])) ≡ IsUndefined }
     ensures second_turn { run own_initialiser (input (pos 2 ∷ [])) ≡ IsUndefined }
 
-    // the same of a call's argument; at n = 2 there are two turns of condition, call, callee and assignment, and then the
-    // last condition and the return
+    // the same of a call's argument; at n = 2 there are two turns of condition, call, callee and assignment, and then
+    // the last condition and the return
     ensures argument { run (initialised_by_call one_or_x) (input (pos 1 ∷ [])) ≡ IsUndefined }
     ensures argument_again { run (initialised_by_call one_or_x) (input (pos 2 ∷ [])) ≡ IsUndefined }
     ensures other_argument { cost_at (initialised_by_call (num 5)) ones (pos 2 ∷ []) ≡ Some 10 }

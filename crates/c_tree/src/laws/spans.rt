@@ -2,8 +2,8 @@
 
 ghost use Rattle.std.specs.Prelude.{◌≡◌, ℕ, Bool, [], length, sum};
 ghost use Rattle.c_tree.specs.declared.tree.Stmt.{Stmt};
-ghost use Rattle.c_tree.specs.Blocks.{blocks};
-ghost use Rattle.c_tree.specs.Spans.{scales, span};
+ghost use Rattle.c_tree.specs.Meaning.Blocks.{blocks};
+ghost use Rattle.c_tree.specs.Meaning.Spans.{scales, span};
 
 /// There is one scale for each block of a statement.
 pub fn each_block_has_a_scale()

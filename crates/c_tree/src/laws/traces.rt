@@ -4,8 +4,8 @@ ghost use Rattle.std.specs.Prelude.{◌≡◌, List};
 ghost use Rattle.c_tree.specs.declared.program.BlockName.{BlockName};
 ghost use Rattle.c_tree.specs.declared.program.Program.{Program};
 ghost use Rattle.c_tree.specs.declared.program.Input.{Input};
-ghost use Rattle.c_tree.specs.Blocks.{AreBlocksOf};
-ghost use Rattle.c_tree.specs.Runs.{run, Ended};
+ghost use Rattle.c_tree.specs.Meaning.Blocks.{AreBlocksOf};
+ghost use Rattle.c_tree.specs.Meaning.Runs.{run, Ended};
 
 /// The trace of a run has only blocks of the program.
 pub fn traces_name_blocks()

@@ -3,8 +3,8 @@
 ghost use Rattle.std.specs.Prelude.{◌≡◌, true, false, pos, neg_ℤ};
 ghost use Rattle.c_tree.specs.declared.tree.Ty.TheVariants as ty;
 ghost use Rattle.c_tree.specs.declared.value.Value.TheVariants.{Unsigned};
-ghost use Rattle.c_tree.specs.Literals.{plus, minus};
-ghost use Rattle.c_tree.specs.Values.{common, is_of, convert, word, of_word};
+ghost use Rattle.c_tree.specs.Meaning.Literals.{plus, minus};
+ghost use Rattle.c_tree.specs.Meaning.Values.{common, is_of, convert, word, of_word};
 
 /// The ranges: -2^31 to 2^31 - 1, and 0 to 2^32 - 1 (C11 6.2.5; the width is this project's own).
 pub fn ranges()

@@ -2,7 +2,7 @@
 
 ghost use Rattle.std.specs.Prelude.{◌≡◌, ◌≢◌, ◌<◌, ◌≤◌, ◌+◌, ℕ, Bool, List, length, slice_get, Some};
 ghost use Rattle.c_tree.specs.declared.program.Program.{Program};
-ghost use Rattle.c_tree.specs.WellFormed.{WellFormed};
+ghost use Rattle.c_tree.specs.Keeping.WellFormed.{WellFormed};
 ghost use Rattle.flow_laws.specs.declared.graph.Edge.{Edge};
 ghost use Rattle.flow_laws.specs.declared.graph.Way.TheVariants.{True, False};
 ghost use Rattle.flow_laws.specs.Sites.{Site};

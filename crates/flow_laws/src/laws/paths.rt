@@ -5,11 +5,11 @@ ghost use Rattle.std.specs.Prelude.{option_and_then};
 ghost use Rattle.c_tree.specs.declared.program.Program.{Program};
 ghost use Rattle.c_tree.specs.declared.program.Input.{Input};
 ghost use Rattle.c_tree.specs.declared.program.Costs.{Costs};
-ghost use Rattle.c_tree.specs.WellFormed.{WellFormed};
+ghost use Rattle.c_tree.specs.Keeping.WellFormed.{WellFormed};
 ghost use Rattle.flow_laws.specs.declared.graph.Loop.{Loop};
 ghost use Rattle.flow_laws.specs.Graphs.{graph, edges, loops};
 ghost use Rattle.flow_laws.specs.Paths.{follows, IsPath, Keeps, KeepsEach, keeps, keeps_each, each_allows};
-ghost use Rattle.flow_laws.specs.Driving.{Drives, drives, place, place_of, place_after};
+ghost use Rattle.flow_laws.specs.Driving.{Drives, drives, place_at, reached_place, place_after};
 ghost use Rattle.flow_laws.specs.Claims.{EndsAt, DrivesAt, IsDriven, IsDrivenList, Begins};
 
 /// For each input and each number n, fitting or not, the run of a well-formed program ends and costs n exactly where
@@ -38,13 +38,13 @@ pub fn driven_lists()
 /// bounds allow it.
 pub fn driving_is_computed()
     ensures same { (p : Program) (i : Input) (q : List ℕ) → Drives p i q ↔ (drives p i q ≡ true) }
-    ensures ends { (p : Program) (i : Input) (q : List ℕ) (h : Drives p i q) → place_of p i q
-        ≡ Some (place h.node h.memory) }
+    ensures ends { (p : Program) (i : Input) (q : List ℕ) (h : Drives p i q) → reached_place p i q
+        ≡ Some (place_at h.node h.memory) }
     ensures leads_on { (p : Program) (i : Input) (q : List ℕ) (j : ℕ)
-        → place_of p i (q ++ j ∷ [])
-        ≡ option_and_then (place_after (graph p) (slice_get (edges (graph p)) j)) (place_of p i q) }
+        → reached_place p i (q ++ j ∷ [])
+        ≡ option_and_then (place_after (graph p) (slice_get (edges (graph p)) j)) (reached_place p i q) }
     ensures goes_on { (p : Program) (i : Input) (q : List ℕ) (j : ℕ) → drives p i (q ++ j ∷ [])
-        ≡ (drives p i q && (is_some (place_of p i (q ++ j ∷ [])) && each_allows (loops (graph p)) q j)) }
+        ≡ (drives p i q && (is_some (reached_place p i (q ++ j ∷ [])) && each_allows (loops (graph p)) q j)) }
 {}
 
 /// A list keeps a loop's bound exactly where the counter of the turns that are left says so; and so for several loops.

@@ -1,10 +1,11 @@
 use Rattle.std.proofs.Common.{◌≡◌, [], ◌∷◌, neg_ℤ, refl}
-use Rattle.bit_blast.proofs.Pushing.{on_ok, same-clause, three-same, six-pushed}
+use Rattle.bit_blast.proofs.Pushing.{same-clause, three-same, six-pushed}
 use Rattle.bit_blast.proofs.gates.push_majority.Goals as goal
+use Rattle.std.proofs.result.Match.{on_ok_then}
 
 pub returns : goal.returns
 returns c =
-    on_ok c.push_three-6.result (λ last. six-pushed c.args.clauses.now.items c.push_three.new.clauses.items c.push_three-2.new.clauses.items c.push_three-3.new.clauses.items c.push_three-4.new.clauses.items c.push_three-5.new.clauses.items c.push_three-6.new.clauses.items (neg_ℤ c.args.x ∷ c.args.l ∷ c.args.m ∷ []) (neg_ℤ c.args.x ∷ c.args.l ∷ c.args.k ∷ []) (neg_ℤ c.args.x ∷ c.args.m ∷ c.args.k ∷ []) (c.args.x ∷ neg_ℤ c.args.l ∷ neg_ℤ c.args.m ∷ []) (c.args.x ∷ neg_ℤ c.args.l ∷ neg_ℤ c.args.k ∷ []) (c.args.x ∷ neg_ℤ c.args.m ∷ neg_ℤ c.args.k ∷ [])
+    on_ok_then c.push_three-6.result (λ last. six-pushed c.args.clauses.now.items c.push_three.new.clauses.items c.push_three-2.new.clauses.items c.push_three-3.new.clauses.items c.push_three-4.new.clauses.items c.push_three-5.new.clauses.items c.push_three-6.new.clauses.items (neg_ℤ c.args.x ∷ c.args.l ∷ c.args.m ∷ []) (neg_ℤ c.args.x ∷ c.args.l ∷ c.args.k ∷ []) (neg_ℤ c.args.x ∷ c.args.m ∷ c.args.k ∷ []) (c.args.x ∷ neg_ℤ c.args.l ∷ neg_ℤ c.args.m ∷ []) (c.args.x ∷ neg_ℤ c.args.l ∷ neg_ℤ c.args.k ∷ []) (c.args.x ∷ neg_ℤ c.args.m ∷ neg_ℤ c.args.k ∷ [])
     (same-clause c.args.clauses.now.items c.push_three.new.clauses.items (neg_ℤ c.args.x ∷ c.args.l ∷ c.args.m ∷ []) _ (three-same c.negated.ensures refl refl) c.in_ok-push_three.ensures)
     (same-clause c.push_three.new.clauses.items c.push_three-2.new.clauses.items (neg_ℤ c.args.x ∷ c.args.l ∷ c.args.k ∷ []) _ (three-same c.negated-2.ensures refl refl) c.in_ok-push_three-2.ensures)
     (same-clause c.push_three-2.new.clauses.items c.push_three-3.new.clauses.items (neg_ℤ c.args.x ∷ c.args.m ∷ c.args.k ∷ []) _ (three-same c.negated-3.ensures refl refl) c.in_ok-push_three-3.ensures)

@@ -1,7 +1,7 @@
 use Rattle.std.proofs.Common.{◌≡◌, All, false, sym, ap, ◌∙◌, subst}
 use Rattle.cnf_form.specs.Literals.{IsLiteral, NamesOnce, IsClause}
 use Rattle.bit_circuits.specs.Tidy.{once, has_both_signs}
-use Rattle.bit_circuits.proofs.Clauses.{once-named}
+use Rattle.bit_circuits.proofs.Formulas.Clauses.{once-named}
 use Rattle.bit_blast.proofs.tidy.push_tidied.Goals as goal
 
 pub of_clause-requires : goal.of_clause-requires

@@ -1,7 +1,7 @@
 use Rattle.std.proofs.Common.{◌≡◌, ◌-◌, length, take, vec_len, arith, sym, ap, ◌∙◌}
 use Rattle.bit_circuits.specs.Words.{lower}
-use Rattle.bit_circuits.proofs.Parts.{take-lower}
-use Rattle.bit_circuits.proofs.Steps.{add-adds}
+use Rattle.bit_circuits.proofs.Circuits.Parts.{take-lower}
+use Rattle.bit_circuits.proofs.Construction.Steps.{add-adds}
 use Rattle.bit_circuits.proofs.arithmetic.add.Goals as goal
 
 pub returns : goal.returns

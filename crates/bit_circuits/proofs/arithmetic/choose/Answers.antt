@@ -2,7 +2,7 @@ use Rattle.std.proofs.Common.{◌≡◌, arith, refl, sym, ap, ◌∙◌}
 use Rattle.bit_circuits.specs.Runs.{Adds}
 use Rattle.bit_circuits.specs.declared.gate.Gate.TheVariants as gates
 use Rattle.bit_circuits.specs.Words.{pairwise as pairwise_of, choose as choose_of}
-use Rattle.bit_circuits.proofs.Steps.{ok_more, choose-adds}
+use Rattle.bit_circuits.proofs.Construction.Steps.{ok_more, choose-adds}
 use Rattle.bit_circuits.proofs.arithmetic.choose.Goals as goal
 
 pub returns : goal.returns

@@ -1,7 +1,7 @@
 use Rattle.std.proofs.Common.{◌≡◌, arith, refl, sym, ap, ◌∙◌}
 use Rattle.bit_circuits.specs.Runs.{Adds}
 use Rattle.bit_circuits.specs.Words.{choose as choose_of, if_some as if_some_of}
-use Rattle.bit_circuits.proofs.Steps.{ok_more, if_some-adds}
+use Rattle.bit_circuits.proofs.Construction.Steps.{ok_more, if_some-adds}
 use Rattle.bit_circuits.proofs.arithmetic.if_some.Goals as goal
 
 pub returns : goal.returns

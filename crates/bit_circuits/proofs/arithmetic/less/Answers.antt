@@ -1,6 +1,6 @@
 use Rattle.std.proofs.Common.{◌≡◌, arith, refl, sym, ap, ◌∙◌}
 use Rattle.bit_circuits.specs.Runs.{Adds}
-use Rattle.bit_circuits.proofs.Steps.{less-adds}
+use Rattle.bit_circuits.proofs.Construction.Steps.{less-adds}
 use Rattle.bit_circuits.proofs.arithmetic.less.Goals as goal
 
 pub returns : goal.returns

@@ -2,8 +2,8 @@ use Rattle.std.proofs.Common.{◌≡◌, arith, refl, sym, ap, ◌∙◌}
 use Rattle.bit_circuits.specs.Runs.{Adds}
 use Rattle.std.proofs.Common.{length}
 use Rattle.bit_circuits.specs.Words.{less as less_of, less_signed as less_signed_of}
-use Rattle.bit_circuits.proofs.Values.{length-turned}
-use Rattle.bit_circuits.proofs.Steps.{ok_more, less_signed-adds}
+use Rattle.bit_circuits.proofs.WordArithmetic.Values.{length-turned}
+use Rattle.bit_circuits.proofs.Construction.Steps.{ok_more, less_signed-adds}
 use Rattle.bit_circuits.proofs.arithmetic.less_signed.Goals as goal
 
 pub less-requires : goal.less-requires

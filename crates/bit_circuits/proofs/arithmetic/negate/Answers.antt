@@ -1,7 +1,7 @@
 use Rattle.std.proofs.Common.{◌≡◌, arith, refl, sym, ap, ◌∙◌}
 use Rattle.bit_circuits.specs.Runs.{Adds}
 use Rattle.bit_circuits.specs.Words.{subtract as subtract_of, negate as negate_of}
-use Rattle.bit_circuits.proofs.Steps.{ok_more, negate-adds}
+use Rattle.bit_circuits.proofs.Construction.Steps.{ok_more, negate-adds}
 use Rattle.bit_circuits.proofs.arithmetic.negate.Goals as goal
 
 pub returns : goal.returns

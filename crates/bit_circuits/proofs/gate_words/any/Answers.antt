@@ -1,7 +1,7 @@
 use Rattle.std.proofs.Common.{arith, refl, sym, subst}
 use Rattle.bit_circuits.specs.Words.{any as any_of}
 use Rattle.bit_circuits.specs.Runs.{Adds}
-use Rattle.bit_circuits.proofs.Loops.{any-more, any-end}
+use Rattle.bit_circuits.proofs.Circuits.Loops.{any-more, any-end}
 use Rattle.bit_circuits.proofs.gate_words.any.Goals as goal
 
 pub loop-i-preserved : goal.loop-i-preserved

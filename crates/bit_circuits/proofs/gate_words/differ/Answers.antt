@@ -1,7 +1,7 @@
 use Rattle.std.proofs.Common.{arith, refl, sym, subst}
 use Rattle.bit_circuits.specs.Words.{differ as differ_of}
 use Rattle.bit_circuits.specs.Runs.{Adds}
-use Rattle.bit_circuits.proofs.Loops.{differ-more, differ-end}
+use Rattle.bit_circuits.proofs.Circuits.Loops.{differ-more, differ-end}
 use Rattle.bit_circuits.proofs.gate_words.differ.Goals as goal
 
 pub loop-i-preserved : goal.loop-i-preserved

@@ -1,6 +1,6 @@
 use Rattle.std.proofs.Common.{List, ℤ, drop, ◌++◌}
 use Rattle.bit_circuits.specs.declared.netlist.Netlist.{Netlist}
-use Rattle.bit_circuits.specs.Words.{masked as masked_of}
+use Rattle.bit_circuits.specs.Words.{masked_word as masked_of}
 use Rattle.bit_circuits.specs.Runs.{Adds}
 use Rattle.bit_circuits.proofs.gate_words.masked.Given as goal
 

@@ -3,7 +3,7 @@ use Rattle.bit_circuits.specs.Words.{pairwise as pairwise_of}
 use Rattle.bit_circuits.specs.Pairs.{gate_of}
 use Rattle.bit_circuits.specs.Circuits.{gate}
 use Rattle.bit_circuits.specs.Runs.{Adds}
-use Rattle.bit_circuits.proofs.Loops.{pairwise-more, pairwise-end}
+use Rattle.bit_circuits.proofs.Circuits.Loops.{pairwise-more, pairwise-end}
 use Rattle.bit_circuits.proofs.gate_words.pairwise.Goals as goal
 
 pub loop-i-preserved : goal.loop-i-preserved

@@ -1,4 +1,4 @@
-use Rattle.bit_circuits.proofs.Clauses.{clauses-formula}
+use Rattle.bit_circuits.proofs.Formulas.Clauses.{clauses-formula}
 use Rattle.bit_circuits.proofs.law.clauses_are_formula.Goals as goal
 
 pub returns : goal.returns

@@ -3,7 +3,7 @@ use Rattle.bit_circuits.specs.Words.{truth_word, equal as equal_of, less as less
 use Rattle.bit_circuits.specs.Binaries.{binary_bits}
 use Rattle.bit_circuits.specs.Circuits.{done, ◌>>=◌}
 use Rattle.bit_circuits.specs.Runs.{Adds}
-use Rattle.bit_circuits.proofs.Steps.{ok_more, flag-adds}
+use Rattle.bit_circuits.proofs.Construction.Steps.{ok_more, flag-adds}
 use Rattle.bit_circuits.proofs.operator.binary.Goals as goal
 
 pub returns-in-Add : goal.returns-in-Add

@@ -1,9 +1,9 @@
 use Rattle.std.proofs.Common.{◌≡◌, suc, ◌-◌, length, drop, arith, sym, ap, ◌∙◌, subst, ◌+◌}
 use Rattle.std.specs.List.{slice_index_or}
-use Rattle.bit_circuits.specs.Words.{lower, falsity, sum as sum_of, multiply as multiply_of}
+use Rattle.bit_circuits.specs.Words.{lower, false_literal, sum as sum_of, multiply as multiply_of}
 use Rattle.bit_circuits.specs.Runs.{Adds}
-use Rattle.bit_circuits.proofs.Values.{length-falses, length-lower}
-use Rattle.bit_circuits.proofs.Widths.{masked-wide, sum-wide, length-rest, rows-more, rows-end, multiply-adds}
+use Rattle.bit_circuits.proofs.WordArithmetic.Values.{length-falses, length-lower}
+use Rattle.bit_circuits.proofs.Circuits.Widths.{masked_word-wide, sum-wide, length-rest, rows-more, rows-end, multiply-adds}
 use Rattle.bit_circuits.proofs.product.multiply.Goals as goal
 
 pub loop-i-init : goal.loop-i-init
@@ -15,7 +15,7 @@ loop-i-init c = record {
 
 pub sum-requires : goal.sum-requires
 sum-requires c =
-    ap length c.as_slice.ensures.value ∙ c.loop-i.invariant.so_far ∙ sym c.loop-i.invariant.rest ∙ sym (masked-wide _ c.loop-i.rest.now c.in_ok-row.ensures) ∙ sym (ap length c.as_slice-in-loop-i.ensures.value)
+    ap length c.as_slice.ensures.value ∙ c.loop-i.invariant.so_far ∙ sym c.loop-i.invariant.rest ∙ sym (masked_word-wide _ c.loop-i.rest.now c.in_ok-row.ensures) ∙ sym (ap length c.as_slice-in-loop-i.ensures.value)
 
 pub loop-i-preserved : goal.loop-i-preserved
 loop-i-preserved c =
@@ -23,7 +23,7 @@ loop-i-preserved c =
     let total = c.in_ok-total.total.items in
     let row = c.in_ok-row.row.items in
     let so = c.loop-i.so_far.items in
-    let row-wide : length row ≡ length c.loop-i.rest.now = masked-wide _ c.loop-i.rest.now c.in_ok-row.ensures in
+    let row-wide : length row ≡ length c.loop-i.rest.now = masked_word-wide _ c.loop-i.rest.now c.in_ok-row.ensures in
     let same : length so ≡ length row = c.loop-i.invariant.so_far ∙ sym c.loop-i.invariant.rest ∙ sym row-wide in
     let added : Adds (sum_of c.falsity.result so row) c.masked.new.netlist c.sum.new.netlist total =
     subst (λ r. Adds (sum_of c.falsity.result so r) c.masked.new.netlist c.sum.new.netlist total) c.as_slice-in-loop-i.ensures.value
@@ -31,7 +31,7 @@ loop-i-preserved c =
     let total-wide : length total ≡ suc (suc k) = sum-wide _ so row same added ∙ ap suc (c.loop-i.invariant.so_far ∙ omega arith) in
     let next : c.in_ok-so_far-2.so_far.items ≡ lower (drop 1 total) =
     c.in_ok-so_far-2.ensures.items ∙ c.lower.ensures ∙ ap lower (c.higher.ensures ∙ ap (drop 1) c.as_slice-in-loop-i-3.ensures.value) in
-    let first : c.lowest.result ≡ slice_index_or total 0 falsity = c.lowest.ensures ∙ ap (λ l. slice_index_or l 0 falsity) c.as_slice-in-loop-i-2.ensures.value in
+    let first : c.lowest.result ≡ slice_index_or total 0 false_literal = c.lowest.ensures ∙ ap (λ l. slice_index_or l 0 false_literal) c.as_slice-in-loop-i-2.ensures.value in
     record {
       so_far = ap length next ∙ length-lower k (drop 1 total) (length-rest (suc k) total total-wide);
       rest = ap length c.lower-rest.ensures ∙ length-lower k c.loop-i.rest.now (c.loop-i.invariant.rest ∙ omega arith);

@@ -2,9 +2,9 @@ use Rattle.std.proofs.Common.{◌≡◌, suc, ◌∷◌, ◌-◌, ◌<◌, ◌�
 use Rattle.std.proofs.lemmas.List.{drop_all}
 use Rattle.bit_circuits.specs.Words.{top, lower, sum as sum_of, choose as choose_of, divide as divide_of}
 use Rattle.bit_circuits.specs.Runs.{Adds}
-use Rattle.bit_circuits.proofs.Values.{length-falses, length-lower, length-neg}
-use Rattle.bit_circuits.proofs.Parts.{take-lower}
-use Rattle.bit_circuits.proofs.Widths.{sum-wide, choose-wide, divide-none, divide-more}
+use Rattle.bit_circuits.proofs.WordArithmetic.Values.{length-falses, length-lower, length-neg}
+use Rattle.bit_circuits.proofs.Circuits.Parts.{take-lower}
+use Rattle.bit_circuits.proofs.Circuits.Widths.{sum-wide, choose-wide, divide-none, divide-more}
 use Rattle.bit_circuits.proofs.quotient.divide.Goals as goal
 
 pub loop-i-init : goal.loop-i-init

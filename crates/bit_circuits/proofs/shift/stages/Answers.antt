@@ -3,9 +3,9 @@ use Rattle.bit_circuits.specs.Runs.{Adds}
 use Rattle.std.proofs.Math.Nat.{pow-le-pow_right, pow-suc}
 use Rattle.bit_circuits.specs.Words.{choose as choose_of, stages as stages_of}
 use Rattle.bit_circuits.specs.Moves.{move_of}
-use Rattle.bit_circuits.proofs.Values.{twice}
-use Rattle.bit_circuits.proofs.Widths.{choose-wide}
-use Rattle.bit_circuits.proofs.Turning.{move-wide, stages-more, stages-end}
+use Rattle.bit_circuits.proofs.WordArithmetic.Values.{twice}
+use Rattle.bit_circuits.proofs.Circuits.Widths.{choose-wide}
+use Rattle.bit_circuits.proofs.Construction.Turning.{move-wide, stages-more, stages-end}
 use Rattle.bit_circuits.proofs.shift.stages.Goals as goal
 
 pub moved-requires : goal.moved-requires

@@ -1,8 +1,8 @@
 use Rattle.std.proofs.Common.{◌≡◌, ◌<◌, ◌≤◌, ◌+◌, ◌*◌, ◌^◌, length, arith, refl, sym, ap, ◌∙◌, subst}
 use Rattle.bit_circuits.specs.Runs.{Adds}
 use Rattle.bit_circuits.specs.Words.{negate_if as negate_if_of, magnitude as magnitude_of}
-use Rattle.bit_circuits.proofs.Steps.{ok_more}
-use Rattle.bit_circuits.proofs.Turning.{magnitude-adds}
+use Rattle.bit_circuits.proofs.Construction.Steps.{ok_more}
+use Rattle.bit_circuits.proofs.Construction.Turning.{magnitude-adds}
 use Rattle.bit_circuits.proofs.sign.magnitude.Goals as goal
 
 pub returns : goal.returns

@@ -1,8 +1,8 @@
 use Rattle.std.proofs.Common.{◌≡◌, ◌<◌, ◌≤◌, ◌+◌, ◌*◌, ◌^◌, length, arith, refl, sym, ap, ◌∙◌, subst}
 use Rattle.bit_circuits.specs.Runs.{Adds}
 use Rattle.bit_circuits.specs.Words.{choose as choose_of, negate_if as negate_if_of}
-use Rattle.bit_circuits.proofs.Steps.{ok_more}
-use Rattle.bit_circuits.proofs.Turning.{negate-wide, negate_if-adds}
+use Rattle.bit_circuits.proofs.Construction.Steps.{ok_more}
+use Rattle.bit_circuits.proofs.Construction.Turning.{negate-wide, negate_if-adds}
 use Rattle.bit_circuits.proofs.sign.negate_if.Goals as goal
 
 pub choose-requires : goal.choose-requires

@@ -1,7 +1,7 @@
 use Rattle.std.proofs.Common.{arith, refl, sym, subst}
 use Rattle.bit_circuits.specs.Words.{carry as carry_of}
 use Rattle.bit_circuits.specs.Runs.{Adds}
-use Rattle.bit_circuits.proofs.Loops.{carry-more, carry-end}
+use Rattle.bit_circuits.proofs.Circuits.Loops.{carry-more, carry-end}
 use Rattle.bit_circuits.proofs.sum.carry.Goals as goal
 
 pub loop-i-preserved : goal.loop-i-preserved

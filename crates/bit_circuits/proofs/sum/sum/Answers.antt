@@ -1,7 +1,7 @@
 use Rattle.std.proofs.Common.{arith, refl, sym, subst}
 use Rattle.bit_circuits.specs.Words.{sum as sum_of}
 use Rattle.bit_circuits.specs.Runs.{Adds}
-use Rattle.bit_circuits.proofs.Loops.{sum-more, sum-end}
+use Rattle.bit_circuits.proofs.Circuits.Loops.{sum-more, sum-end}
 use Rattle.bit_circuits.proofs.sum.sum.Goals as goal
 
 pub loop-i-preserved : goal.loop-i-preserved

@@ -1,10 +1,10 @@
 use Rattle.std.proofs.Common.{◌≡◌, map, neg_ℤ, arith, refl, sym, ap, ◌∙◌, subst}
-use Rattle.bit_circuits.specs.Words.{constant}
+use Rattle.bit_circuits.specs.Words.{constant_bits}
 use Rattle.bit_circuits.specs.Formula.{input_bits, bits_at, op_bits}
 use Rattle.bit_circuits.specs.Binaries.{binary_bits}
 use Rattle.bit_circuits.specs.Circuits.{done}
 use Rattle.bit_circuits.specs.Runs.{Adds}
-use Rattle.bit_circuits.proofs.Steps.{ok_more, done-same}
+use Rattle.bit_circuits.proofs.Construction.Steps.{ok_more, done-same}
 use Rattle.bit_circuits.proofs.term.op_bits.Goals as goal
 
 pub returns-in-Input : goal.returns-in-Input
@@ -16,8 +16,8 @@ returns-in-Input c =
 pub returns-in-Const : goal.returns-in-Const
 unfolding op_bits
 returns-in-Const c =
-    rw c.in-Const.is (ok_more (λ w. w.items ≡ constant 32 c.in-Const.n) (λ w. Adds (done (constant 32 c.in-Const.n)) c.args.netlist.now c.args.netlist.now w.items) c.constant.result
-    (λ w e. done-same (constant 32 c.in-Const.n) w.items c.args.netlist.now e) c.constant.ensures)
+    rw c.in-Const.is (ok_more (λ w. w.items ≡ constant_bits 32 c.in-Const.n) (λ w. Adds (done (constant_bits 32 c.in-Const.n)) c.args.netlist.now c.args.netlist.now w.items) c.constant.result
+    (λ w e. done-same (constant_bits 32 c.in-Const.n) w.items c.args.netlist.now e) c.constant.ensures)
 
 pub returns-in-Not : goal.returns-in-Not
 unfolding op_bits

@@ -3,9 +3,9 @@ use Rattle.std.proofs.lemmas.List.{map-append}
 use Rattle.bit_circuits.specs.declared.literal.Literal.{Literal}
 use Rattle.bit_circuits.specs.Formula.{bits_at, op_bits, terms_bits as terms_bits_of}
 use Rattle.bit_circuits.specs.Runs.{Adds, next_of}
-use Rattle.bit_circuits.proofs.Fitting.{are-over, over-at}
-use Rattle.bit_circuits.proofs.Terms.{Words, length-bits_at}
-use Rattle.bit_circuits.proofs.Growing.{words-more, terms-more, terms-end}
+use Rattle.bit_circuits.proofs.Formulas.Fitting.{are-over, over-at}
+use Rattle.bit_circuits.proofs.WordArithmetic.Terms.{Words, length-bits_at}
+use Rattle.bit_circuits.proofs.Construction.Growing.{words-more, terms-more, terms-end}
 use Rattle.bit_circuits.proofs.term.terms_bits.Goals as goal
 
 pub op_bits-requires-clause-wide : goal.op_bits-requires-clause-wide

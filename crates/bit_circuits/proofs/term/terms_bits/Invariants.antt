@@ -2,7 +2,7 @@ use Rattle.std.proofs.Common.{◌≤◌, List, ℤ, map, drop, []}
 use Rattle.bit_circuits.specs.declared.netlist.Netlist.{Netlist}
 use Rattle.bit_circuits.specs.Formula.{first_of, terms_bits as terms_bits_of}
 use Rattle.bit_circuits.specs.Runs.{Adds, next_of}
-use Rattle.bit_circuits.proofs.Terms.{Words}
+use Rattle.bit_circuits.proofs.WordArithmetic.Terms.{Words}
 use Rattle.bit_circuits.proofs.term.terms_bits.Given as goal
 
 abbrev pub invariant-loop-op : goal.invariant-loop-op

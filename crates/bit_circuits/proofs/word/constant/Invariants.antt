@@ -1,5 +1,5 @@
 use Rattle.std.proofs.Common.{◌≡◌, ◌-◌, ◌++◌}
-use Rattle.bit_circuits.specs.Words.{constant as constant_of}
+use Rattle.bit_circuits.specs.Words.{constant_bits as constant_of}
 use Rattle.bit_circuits.proofs.word.constant.Given as goal
 
 abbrev pub invariant-loop-i : goal.invariant-loop-i

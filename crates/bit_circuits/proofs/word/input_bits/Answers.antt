@@ -1,6 +1,6 @@
 use Rattle.std.proofs.Common.{◌≡◌, ◌-◌, ◌+◌, ◌*◌, ◌++◌, ◌∷◌, [], pos, arith, ap, ◌∙◌}
 use Rattle.bit_circuits.specs.Formula.{input_bits as input_bits_of}
-use Rattle.bit_circuits.proofs.Parts.{variables-more}
+use Rattle.bit_circuits.proofs.Circuits.Parts.{variables-more}
 use Rattle.bit_circuits.proofs.word.input_bits.Goals as goal
 
 pub loop-i-preserved : goal.loop-i-preserved

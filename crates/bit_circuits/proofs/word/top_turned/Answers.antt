@@ -1,7 +1,7 @@
 use Rattle.std.proofs.Common.{◌≡◌, ◌<◌, ◌++◌, ◌∷◌, [], length, neg_ℤ, arith, sym, ap, ◌∙◌}
 use Rattle.std.proofs.lemmas.Bool.Decides.{nat_tests}
 use Rattle.bit_circuits.specs.Words.{top, lower}
-use Rattle.bit_circuits.proofs.Parts.{turned-parts}
+use Rattle.bit_circuits.proofs.Circuits.Parts.{turned-parts}
 use Rattle.bit_circuits.proofs.word.top_turned.Goals as goal
 
 pub returns : goal.returns

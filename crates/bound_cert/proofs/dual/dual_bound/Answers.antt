@@ -7,9 +7,10 @@ use Rattle.lin_rows.proofs.StepLists.{Tells-none, Tells-some}
 use Rattle.lin_rows.specs.declared.row.Row.{Row}
 use Rattle.bound_cert.specs.Fitting.{Takes}
 use Rattle.bound_cert.specs.Law.{IsBound, HaveEntries}
-use Rattle.bound_cert.proofs.Duality.{AllZip-length, weak_duality_lem}
+use Rattle.bound_cert.proofs.Duality.{weak_duality_lem}
 use Rattle.bound_cert.proofs.Edges.{Bounded, Bounded-start, Bounded-next, Bounded-stop, Bounded-all, rights-stop}
 use Rattle.bound_cert.proofs.dual.dual_bound.Goals as goal
+use Rattle.plain_laws.proofs.Zips.{AllZip-length}
 
 pub right_sides-requires : goal.right_sides-requires
 right_sides-requires c =

@@ -2,8 +2,8 @@ use Rattle.std.proofs.Common.{ℤ}
 use Rattle.std.proofs.lemmas.Bool.{false≢true}
 use Rattle.lin_rows.specs.declared.row.Row.{Row}
 use Rattle.bound_cert.specs.Fitting.{Takes}
-use Rattle.bound_cert.proofs.Duality.{AllZip-length}
 use Rattle.bound_cert.proofs.fitting.each_takes.Goals as goal
+use Rattle.plain_laws.proofs.Zips.{AllZip-length}
 
 pub returns-then-rows-y : goal.returns-then-rows-y
 returns-then-rows-y c =

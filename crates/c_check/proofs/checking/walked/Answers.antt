@@ -1,7 +1,7 @@
 use Rattle.std.proofs.Common.{ap, ◌∙◌}
 use Rattle.std.specs.Prelude.{unwrap_or}
-use Rattle.c_tree.specs.Programs.{Program}
-use Rattle.c_tree.specs.Naming.{entry_number, program_of}
+use Rattle.c_tree.specs.Keeping.Programs.{Program}
+use Rattle.c_tree.specs.Checking.Naming.{entry_number, program_of}
 use Rattle.c_check.proofs.checking.walked.Goals as goal
 
 pub returns-clause-named : goal.returns-clause-named

@@ -1,5 +1,5 @@
 use Rattle.std.proofs.Common.{◌≡◌, drop}
-use Rattle.c_tree.specs.Refusals.{func_named}
+use Rattle.c_tree.specs.Checking.Refusals.{func_named}
 use Rattle.c_check.proofs.entry.func_named.Given as goal
 
 -- the functions so far have other names

@@ -1,6 +1,6 @@
 use Rattle.std.proofs.Common.{◌≡◌, drop}
 use Rattle.std.specs.Prelude.{slice_get}
-use Rattle.c_tree.specs.Refusals.{outer_inputs}
+use Rattle.c_tree.specs.Checking.Refusals.{outer_inputs}
 use Rattle.c_check.proofs.entry.outer_input_at.Given as goal
 
 -- the input numbers so far are counted off

@@ -1,7 +1,7 @@
 use Rattle.std.proofs.Common.{◌≡◌, suc, ◌+◌, ◌-◌, ◌∷◌, drop, length, refl, sym, ap, ◌∙◌, arith}
 use Rattle.std.proofs.Math.ListN.{drop_of_length-le}
 use Rattle.std.proofs.lemmas.Option.{slice_get_read}
-use Rattle.c_tree.specs.Runs.{param_types}
+use Rattle.c_tree.specs.Meaning.Runs.{param_types}
 use Rattle.c_input.specs.Starts.{rest_of}
 use Rattle.c_input.proofs.InputParts.{drop_is, params_none, next_some, next_none}
 use Rattle.c_input.proofs.fitting.behind_params.Goals as goal

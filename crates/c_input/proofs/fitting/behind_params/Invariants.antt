@@ -1,5 +1,5 @@
 use Rattle.std.proofs.Common.{◌≡◌, drop}
-use Rattle.c_tree.specs.Runs.{param_types}
+use Rattle.c_tree.specs.Meaning.Runs.{param_types}
 use Rattle.c_input.specs.Starts.{rest_of}
 use Rattle.c_input.proofs.fitting.behind_params.Given as goal
 

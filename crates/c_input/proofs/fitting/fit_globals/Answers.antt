@@ -1,6 +1,6 @@
 use Rattle.std.proofs.Common.{◌+◌, drop, length, refl, sym, ap, ◌∙◌}
 use Rattle.std.proofs.lemmas.Option.{slice_get_read}
-use Rattle.c_tree.specs.Runs.{are_of, outer_types}
+use Rattle.c_tree.specs.Meaning.Runs.{are_of, outer_types}
 use Rattle.c_input.proofs.InputParts.{drop_is, global_some, global_none}
 use Rattle.c_input.proofs.fitting.fit_globals.Goals as goal
 

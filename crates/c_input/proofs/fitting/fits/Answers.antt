@@ -1,7 +1,7 @@
 use Rattle.std.proofs.Common.{◌++◌, ap, ◌∙◌}
 use Rattle.std.specs.Prelude.{slice_get, option_copied}
-use Rattle.c_tree.specs.Programs.{Program}
-use Rattle.c_tree.specs.Runs.{are_of, outer_types, entry_types}
+use Rattle.c_tree.specs.Keeping.Programs.{Program}
+use Rattle.c_tree.specs.Meaning.Runs.{are_of, outer_types, entry_types}
 use Rattle.c_input.proofs.InputParts.{entry_some, entry_none}
 use Rattle.c_input.proofs.fitting.fits.Goals as goal
 

@@ -2,7 +2,7 @@ use Rattle.std.proofs.Common.{◌++◌, drop, get_or, Some, sym, ap, ◌∙◌, 
 use Rattle.std.specs.Prelude.{slice_get}
 use Rattle.std.proofs.lemmas.Option.{slice_get-get_or}
 use Rattle.c_tree.specs.declared.tree.Ty.TheVariants as ty
-use Rattle.c_tree.specs.Runs.{arguments}
+use Rattle.c_tree.specs.Meaning.Runs.{arguments}
 use Rattle.c_input.specs.Starts.{NumberAt}
 use Rattle.c_input.proofs.InputParts.{drop_none, arguments_none, args_step}
 use Rattle.c_input.proofs.inputs.arguments.Goals as goal

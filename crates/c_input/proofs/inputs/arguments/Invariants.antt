@@ -1,5 +1,5 @@
 use Rattle.std.proofs.Common.{◌≡◌, ◌++◌, drop}
-use Rattle.c_tree.specs.Runs.{arguments}
+use Rattle.c_tree.specs.Meaning.Runs.{arguments}
 use Rattle.c_input.proofs.inputs.arguments.Given as goal
 
 abbrev pub invariant-loop-i : goal.invariant-loop-i

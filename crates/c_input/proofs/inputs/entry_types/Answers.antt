@@ -1,7 +1,7 @@
 use Rattle.std.proofs.Common.{◌<◌, ◌+◌, ◌-◌, ◌++◌, drop, length, refl, sym, ap, ◌∙◌, arith, append-nil}
 use Rattle.std.proofs.Math.ListN.{drop_of_length-le}
 use Rattle.std.proofs.lemmas.Option.{slice_get_read}
-use Rattle.c_tree.specs.Runs.{param_types}
+use Rattle.c_tree.specs.Meaning.Runs.{param_types}
 use Rattle.c_input.proofs.InputParts.{drop_is, params_none, params_step}
 use Rattle.c_input.proofs.inputs.entry_types.Goals as goal
 

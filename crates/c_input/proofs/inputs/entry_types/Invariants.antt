@@ -1,5 +1,5 @@
 use Rattle.std.proofs.Common.{◌≡◌, ◌++◌, ◌-◌, drop, length}
-use Rattle.c_tree.specs.Runs.{param_types}
+use Rattle.c_tree.specs.Meaning.Runs.{param_types}
 use Rattle.c_input.proofs.inputs.entry_types.Given as goal
 
 abbrev pub invariant-loop-local : goal.invariant-loop-local

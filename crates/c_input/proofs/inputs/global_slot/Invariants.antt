@@ -1,5 +1,5 @@
 use Rattle.std.proofs.Common.{◌≡◌, ◌++◌, replicate, map}
-use Rattle.c_tree.specs.Values.{of_int, zero_of}
+use Rattle.c_tree.specs.Meaning.Values.{of_int, zero_of}
 use Rattle.c_input.proofs.inputs.global_slot.Given as goal
 
 abbrev pub invariant-loop-at : goal.invariant-loop-at

@@ -1,8 +1,8 @@
 use Rattle.std.proofs.Common.{◌+◌, ◌++◌, drop, length, refl, sym, ap, ◌∙◌, subst}
 use Rattle.std.specs.Prelude.{IsTrue}
 use Rattle.std.proofs.lemmas.Option.{slice_get_read}
-use Rattle.c_tree.specs.Runs.{are_of, outer_types, global_slots}
-use Rattle.c_tree.specs.WellFormed.{WellFormedGlobals}
+use Rattle.c_tree.specs.Meaning.Runs.{are_of, outer_types, global_slots}
+use Rattle.c_tree.specs.Keeping.WellFormed.{WellFormedGlobals}
 use Rattle.c_input.proofs.InputParts.{first_takes, rest_takes, drop_is, slots_step}
 use Rattle.c_input.proofs.inputs.global_slots.Goals as goal
 

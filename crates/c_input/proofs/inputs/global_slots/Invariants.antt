@@ -1,7 +1,7 @@
 use Rattle.std.proofs.Common.{◌≡◌, ◌++◌, drop}
 use Rattle.std.specs.Prelude.{IsTrue}
-use Rattle.c_tree.specs.Runs.{global_slots, are_of, outer_types}
-use Rattle.c_tree.specs.WellFormed.{WellFormedGlobals}
+use Rattle.c_tree.specs.Meaning.Runs.{global_slots, are_of, outer_types}
+use Rattle.c_tree.specs.Keeping.WellFormed.{WellFormedGlobals}
 use Rattle.c_input.proofs.inputs.global_slots.Given as goal
 
 abbrev pub invariant-loop-global : goal.invariant-loop-global

@@ -1,7 +1,7 @@
 use Rattle.std.proofs.Common.{sym, ap, ◌∙◌, subst}
 use Rattle.c_input.proofs.InputParts.{numbers_at}
 use Rattle.std.proofs.Common.{take}
-use Rattle.c_tree.specs.WellFormed.{AreNumbersOf}
+use Rattle.c_tree.specs.Keeping.WellFormed.{AreNumbersOf}
 use Rattle.c_input.proofs.inputs.next_slot.Goals as goal
 
 pub global_slot-requires : goal.global_slot-requires

@@ -1,7 +1,7 @@
 use Rattle.std.proofs.Common.{◌≤◌, ◌++◌, drop, length, sym, ap, ◌∙◌, subst}
 use Rattle.std.specs.Prelude.{IsTrue, slice_get}
-use Rattle.c_tree.specs.Programs.{Program}
-use Rattle.c_tree.specs.Runs.{are_of, outer_types, entry_types, param_types, arguments, global_slots}
+use Rattle.c_tree.specs.Keeping.Programs.{Program}
+use Rattle.c_tree.specs.Meaning.Runs.{are_of, outer_types, entry_types, param_types, arguments, global_slots}
 use Rattle.c_input.specs.Starts.{NumberAt}
 use Rattle.c_input.proofs.InputParts.{number_at, rest_fits}
 use Rattle.c_input.proofs.start.start_of.Goals as goal

@@ -1,7 +1,7 @@
 use Rattle.std.proofs.Common.{◌++◌, length, refl, drop, sym, ap, ◌∙◌, append-nil, append_assoc}
 use Rattle.std.proofs.lemmas.Option.{slice_get_read}
 use Rattle.std.specs.Fmt.{signed_decimal}
-use Rattle.c_input.specs.InputTexts.{led}
+use Rattle.c_input.specs.InputTexts.{led_numbers}
 use Rattle.c_input.proofs.InputParts.{drop_none}
 use Rattle.c_input.proofs.InputSteps.{no_numbers, write_step}
 use Rattle.c_input.proofs.writing.led.Goals as goal
@@ -12,7 +12,7 @@ returns-in_default c =
     let i = c.loop-i.i in
     let text = c.loop-i.text.items in
     let none = drop_none c.args.numbers.now i (sym c.in_default.ensures) in
-    sym (append-nil text) ∙ ap (λ more. text ++ more) (sym (no_numbers (drop i ls))) ∙ ap (λ zs. text ++ led (drop i ls) zs) (sym none) ∙ c.loop-i.invariant
+    sym (append-nil text) ∙ ap (λ more. text ++ more) (sym (no_numbers (drop i ls))) ∙ ap (λ zs. text ++ led_numbers (drop i ls) zs) (sym none) ∙ c.loop-i.invariant
 
 pub loop-i-preserved : goal.loop-i-preserved
 loop-i-preserved c =

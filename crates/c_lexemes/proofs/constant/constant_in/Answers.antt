@@ -1,5 +1,5 @@
 use Rattle.std.proofs.Common.{◌≡◌, sym, ◌∙◌}
-use Rattle.c_tree.specs.Lexemes.{base_of, digits_of}
+use Rattle.c_tree.specs.Tokens.TokenKinds.{base_of, digits_of}
 use Rattle.c_lexemes.proofs.Numerals.{held, constant_in_held}
 use Rattle.c_lexemes.proofs.constant.constant_in.Goals as goal
 

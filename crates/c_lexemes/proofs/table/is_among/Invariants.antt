@@ -1,5 +1,5 @@
 use Rattle.std.proofs.Common.{◌≡◌, map, drop}
-use Rattle.c_tree.specs.Lexemes.{is_among}
+use Rattle.c_tree.specs.Tokens.TokenKinds.{is_among}
 use Rattle.c_lexemes.proofs.table.is_among.Given as goal
 
 abbrev pub invariant-loop-entry : goal.invariant-loop-entry

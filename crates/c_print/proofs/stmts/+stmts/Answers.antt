@@ -1,5 +1,5 @@
 use Rattle.std.proofs.Common.{rules}
-use Rattle.print_laws.proofs.StmtLayers.{for-written}
+use Rattle.print_laws.proofs.Composing.StmtLayers.{for-written}
 use Rattle.c_print.proofs.stmts.+stmts.Goals as goal
 
 pub push_stmt-returns-in_ok-push_block-in-For : goal.push_stmt-returns-in_ok-push_block-in-For

@@ -1,6 +1,6 @@
 use Rattle.std.proofs.Common.{◌≡◌, ◌++◌, drop}
-use Rattle.c_tree.specs.Naming.{kept_numbers}
-use Rattle.c_tree.specs.Uses.{constants_uses}
+use Rattle.c_tree.specs.Checking.Naming.{kept_numbers}
+use Rattle.c_tree.specs.Checking.Uses.{constants_uses}
 use Rattle.c_faults.specs.Verdicts.{after_uses}
 use Rattle.c_resolve.proofs.expr.constants.Given as goal
 

@@ -1,15 +1,15 @@
 use Rattle.std.proofs.Common.{◌++◌, ◌∷◌, [], ◌+◌, drop, sym, ap, ◌∙◌, append_assoc}
-use Rattle.c_tree.specs.Constants.{expr_of, exprs_of}
-use Rattle.c_tree.specs.Uses.{expr_uses, exprs_uses}
+use Rattle.c_tree.specs.Checking.Constants.{expr_of, exprs_of}
+use Rattle.c_tree.specs.Checking.Uses.{expr_uses, exprs_uses}
 use Rattle.c_faults.specs.Verdicts.{after_uses}
-use Rattle.c_faults.proofs.Heard.{after_uses-none, after_uses-append}
-use Rattle.c_resolve.proofs.Steps.{next_item, no_items}
+use Rattle.c_faults.proofs.AfterUses.{after_uses-none, after_uses-append}
 use Rattle.c_resolve.proofs.expr.exprs.Goals as goal
+use Rattle.plain_laws.proofs.Lists.{drop-read, drop-past}
 
 pub loop-e-preserved : goal.loop-e-preserved
 loop-e-preserved c =
     let ks = c.args.names.now in
-    let at = next_item c.args.list.now c.loop-e.e-index c.e-item.result c.loop-e-test.true c.e-item.is in
+    let at = drop-read c.args.list.now c.loop-e.e-index c.e-item.result c.loop-e-test.true c.e-item.is in
     let rest = drop (c.loop-e.e-index + 1) c.args.list.now in
     record {
       tree = ap (λ xs. xs ++ exprs_of ks rest) (c.in_ok-push.ensures.ok ∙ ap (λ x. c.loop-e.items ++ x ∷ []) c.in_ok-expr.ensures.tree)
@@ -23,5 +23,5 @@ loop-e-preserved c =
 pub returns-clause-first : goal.returns-clause-first
 returns-clause-first c =
     sym (after_uses-none c.loop-e.verdict)
-    ∙ ap (λ xs. after_uses c.loop-e.verdict (exprs_uses c.args.names.now xs)) (sym (no_items c.args.list.now c.loop-e.e-index c.loop-e-test.false))
+    ∙ ap (λ xs. after_uses c.loop-e.verdict (exprs_uses c.args.names.now xs)) (sym (drop-past c.args.list.now c.loop-e.e-index c.loop-e-test.false))
     ∙ c.loop-e.invariant.first

@@ -1,6 +1,6 @@
 use Rattle.std.proofs.Common.{◌≡◌, ◌++◌, drop}
-use Rattle.c_tree.specs.Constants.{exprs_of}
-use Rattle.c_tree.specs.Uses.{exprs_uses}
+use Rattle.c_tree.specs.Checking.Constants.{exprs_of}
+use Rattle.c_tree.specs.Checking.Uses.{exprs_uses}
 use Rattle.c_faults.specs.Verdicts.{after_uses}
 use Rattle.c_resolve.proofs.expr.exprs.Given as goal
 

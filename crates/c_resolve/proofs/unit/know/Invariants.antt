@@ -1,5 +1,5 @@
 use Rattle.std.proofs.Common.{◌≡◌, ◌++◌, drop}
-use Rattle.c_tree.specs.Naming.{known_funcs}
+use Rattle.c_tree.specs.Checking.Naming.{known_funcs}
 use Rattle.c_resolve.proofs.unit.know.Given as goal
 
 -- the functions so far are known

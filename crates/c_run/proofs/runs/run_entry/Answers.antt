@@ -1,12 +1,12 @@
 use Rattle.std.proofs.Common.{◌≡◌, ap, ◌∙◌, subst, IfOk}
-use Rattle.c_tree.specs.Programs.{Program}
-use Rattle.c_tree.specs.Runs.{entry_slots}
-use Rattle.c_run.specs.Machine.{doing}
+use Rattle.c_tree.specs.Keeping.Programs.{Program}
+use Rattle.c_tree.specs.Meaning.Runs.{entry_slots}
+use Rattle.c_run.specs.Machine.{task_outcome}
 use Rattle.c_run.proofs.Exact.{begins}
 use Rattle.c_run.proofs.runs.run_entry.Goals as goal
 
 pub returns : goal.returns
-unfolding doing
+unfolding task_outcome
 returns c =
     let g = c.args.given in
     let h = c.args.entry.now in

@@ -2,8 +2,8 @@
 use Rattle.std.proofs.Common.{◌≡◌, ◌<◌, ◌≤◌, ◌^◌, ℕ, false, List, Option, None, ap, arith, ◌∙◌}
 use Rattle.std.specs.Option.{SomeIff}
 use Rattle.c_tree.specs.declared.tree.Stmt.{Stmt}
-use Rattle.c_tree.specs.Blocks.{blocks, list_blocks}
-use Rattle.c_tree.proofs.ExecLayers.{blocks-For}
+use Rattle.c_tree.specs.Meaning.Blocks.{blocks, list_blocks}
+use Rattle.c_tree.proofs.Layers.ExecLayers.{blocks-For}
 use Rattle.c_semantics.proofs.blocks.+blocks.Goals as goal
 
 -- no count is right of a number that is at least one which does not fit

@@ -1,6 +1,6 @@
 -- What a count of blocks keeps while it is made.
 use Rattle.std.proofs.Common.{◌≡◌, ◌+◌, ◌<◌, ◌^◌, false, drop}
-use Rattle.c_tree.specs.Blocks.{list_blocks}
+use Rattle.c_tree.specs.Meaning.Blocks.{list_blocks}
 use Rattle.c_semantics.proofs.blocks.+blocks.Given as goal
 
 -- the blocks counted, and those of what is left

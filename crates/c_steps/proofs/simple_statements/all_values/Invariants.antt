@@ -1,5 +1,5 @@
 use Rattle.std.proofs.Common.{◌≡◌, ◌++◌, drop, option_map}
-use Rattle.c_tree.specs.Expressions.{all_values}
+use Rattle.c_tree.specs.Meaning.Expressions.{all_values}
 use Rattle.c_steps.proofs.simple_statements.all_values.Given as goal
 
 abbrev pub invariant-loop-e : goal.invariant-loop-e

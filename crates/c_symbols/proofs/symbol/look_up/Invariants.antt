@@ -1,5 +1,5 @@
 use Rattle.std.proofs.Common.{◌≡◌, map, drop}
-use Rattle.c_tree.specs.Symbols.{look_up}
+use Rattle.c_tree.specs.Tokens.Symbols.{look_up}
 use Rattle.c_symbols.proofs.symbol.look_up.Given as goal
 
 abbrev pub invariant-loop-entry : goal.invariant-loop-entry

@@ -1,5 +1,5 @@
 use Rattle.std.proofs.Common.{refl, ◌∙◌, arith}
-use Rattle.c_tree.specs.Lexing.{nothing}
+use Rattle.c_tree.specs.Tokens.Lexing.{nothing}
 use Rattle.c_token.proofs.Reaching.{Reaches-append}
 use Rattle.c_token.proofs.scanner.scan.Goals as goal
 

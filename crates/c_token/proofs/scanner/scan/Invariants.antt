@@ -1,5 +1,5 @@
 use Rattle.std.proofs.Common.{◌≡◌, ◌-◌, ◌≤◌, length}
-use Rattle.c_tree.specs.Lexing.{Reaches}
+use Rattle.c_tree.specs.Tokens.Lexing.{Reaches}
 use Rattle.c_token.proofs.scanner.scan.Given as goal
 
 abbrev pub invariant-loop-scanner : goal.invariant-loop-scanner

@@ -1,5 +1,5 @@
 use Rattle.std.proofs.Common.{◌≡◌, ◌++◌, drop}
-use Rattle.c_tree.specs.Runs.{entry_slots}
+use Rattle.c_tree.specs.Meaning.Runs.{entry_slots}
 use Rattle.c_ways.proofs.slots.entry_slots.Given as goal
 
 abbrev pub invariant-loop-i : goal.invariant-loop-i

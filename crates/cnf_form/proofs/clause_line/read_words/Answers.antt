@@ -2,7 +2,7 @@ use Rattle.std.proofs.Common.{FitsSigned, w32, [], ◌++◌, ◌∷◌, refl, sy
 use Rattle.std.specs.Fmt.{signed_decimal}
 use Rattle.std.proofs.lemmas.Int.{to_z-of_z}
 use Rattle.cnf_form.specs.Reading.{front_words}
-use Rattle.cnf_form.proofs.LineWords.{one_word, no_word, takes_line, cut_some}
+use Rattle.cnf_form.proofs.Formulas.LineWords.{one_word, no_word, takes_line, cut_some}
 use Rattle.cnf_form.proofs.clause_line.read_words.Goals as goal
 
 pub loop-word-init : goal.loop-word-init

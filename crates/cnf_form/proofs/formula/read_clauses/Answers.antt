@@ -1,8 +1,9 @@
 use Rattle.std.proofs.Common.{length, subst, arith}
 use Rattle.cnf_form.specs.Reading.{TakesTold}
 use Rattle.text_lines.proofs.Leaving.{not_empty, is_empty}
-use Rattle.cnf_form.proofs.Placing.{next_clauses, no_clauses_here, clauses_cut_off, missing_clauses, whole_text, shorter}
+use Rattle.cnf_form.proofs.Formulas.Placing.{next_clauses, no_clauses_here, clauses_cut_off, missing_clauses, whole_text}
 use Rattle.cnf_form.proofs.formula.read_clauses.Goals as goal
+use Rattle.text_lines.proofs.Onward.{cut_shorter}
 
 pub returns-in-MayGrow-clause-fault : goal.returns-in-MayGrow-clause-fault
 returns-in-MayGrow-clause-fault c =
@@ -24,7 +25,7 @@ loop-rest-preserved c =
     record { keeps = further.keeps; place = further.place }
 
 pub loop-rest-smaller : goal.loop-rest-smaller
-loop-rest-smaller c = shorter c.loop-rest.rest.now c.first_line.result.0.now c.first_line.result.1.now c.first_line.ensures
+loop-rest-smaller c = cut_shorter c.loop-rest.rest.now c.first_line.result.0.now c.first_line.result.1.now c.first_line.ensures
 
 pub returns-then-len-front-clause-fault : goal.returns-then-len-front-clause-fault
 returns-then-len-front-clause-fault c =

@@ -1,4 +1,4 @@
-use Rattle.cnf_form.proofs.Placing.{behind}
+use Rattle.cnf_form.proofs.Formulas.Placing.{behind}
 use Rattle.cnf_form.proofs.formula.read_cnf.Goals as goal
 
 pub read_clauses-requires-clause-place : goal.read_clauses-requires-clause-place

@@ -1,8 +1,9 @@
 use Rattle.std.proofs.Common.{◌≡◌, length, true, false, sym, ◌∙◌}
 use Rattle.cnf_form.specs.Forms.{begins_with}
 use Rattle.text_lines.proofs.Leaving.{not_empty, is_empty}
-use Rattle.cnf_form.proofs.Placing.{at_beginning, next_comment, next_head, no_head_here, head_cut_off, only_comments, shorter}
+use Rattle.cnf_form.proofs.Formulas.Placing.{at_beginning, next_comment, next_head, no_head_here, head_cut_off, only_comments}
 use Rattle.cnf_form.proofs.formula.read_opening.Goals as goal
+use Rattle.text_lines.proofs.Onward.{cut_shorter}
 
 pub loop-rest-init : goal.loop-rest-init
 loop-rest-init c = at_beginning c.args.text.now
@@ -32,7 +33,7 @@ loop-rest-preserved c =
     next_comment c.args.text.now c.loop-rest.rest.now c.first_line.result.0.now c.first_line.result.1.now c.loop-rest.line c.loop-rest.invariant c.first_line.ensures some comment
 
 pub loop-rest-smaller : goal.loop-rest-smaller
-loop-rest-smaller c = shorter c.loop-rest.rest.now c.first_line.result.0.now c.first_line.result.1.now c.first_line.ensures
+loop-rest-smaller c = cut_shorter c.loop-rest.rest.now c.first_line.result.0.now c.first_line.result.1.now c.first_line.ensures
 
 pub returns-clause-fault : goal.returns-clause-fault
 returns-clause-fault c =

@@ -1,6 +1,6 @@
 use Rattle.std.proofs.Common.{◌≡◌, codes, decimal, [], ◌∷◌, ◌++◌, refl, sym, ap, arith}
-use Rattle.cnf_form.proofs.LineWords.{one_word}
-use Rattle.cnf_form.proofs.Heads.{no_head, no_number_at, lacks, zero_is, apart_blank}
+use Rattle.cnf_form.proofs.Formulas.LineWords.{one_word}
+use Rattle.cnf_form.proofs.Formulas.Heads.{no_head, no_number_at, lacks, zero_is, apart_blank}
 use Rattle.cnf_form.proofs.head.head_behind_cnf.Goals as goal
 
 pub returns-in_default : goal.returns-in_default

@@ -2,8 +2,8 @@ use Rattle.std.proofs.Common.{◌≡◌, ◌<◌, codes, [], ◌∷◌, ◌++◌
 use Rattle.std.proofs.lemmas.Bool.{false≢true}
 use Rattle.std.proofs.lemmas.List.{append-nil}
 use Rattle.cnf_form.specs.Forms.{words}
-use Rattle.cnf_form.proofs.LineWords.{one_word}
-use Rattle.cnf_form.proofs.Heads.{no_head, front_of_cnf, lacks, stops_in_word, zero_is, apart_blank}
+use Rattle.cnf_form.proofs.Formulas.LineWords.{one_word}
+use Rattle.cnf_form.proofs.Formulas.Heads.{no_head, front_of_cnf, lacks, stops_in_word, zero_is, apart_blank}
 use Rattle.cnf_form.proofs.head.head_behind_p.Goals as goal
 
 pub returns-in_default : goal.returns-in_default

@@ -1,7 +1,7 @@
 use Rattle.std.proofs.Common.{◌≡◌, codes, [], ◌∷◌, ◌++◌, sym, ◌∙◌, ap}
 use Rattle.std.proofs.lemmas.Bool.{false≢true}
-use Rattle.cnf_form.proofs.LineWords.{one_word}
-use Rattle.cnf_form.proofs.Heads.{no_head, only_p, at_start}
+use Rattle.cnf_form.proofs.Formulas.LineWords.{one_word}
+use Rattle.cnf_form.proofs.Formulas.Heads.{no_head, only_p, at_start}
 use Rattle.cnf_form.proofs.head.head_of.Goals as goal
 
 pub returns-then-not-is_word : goal.returns-then-not-is_word

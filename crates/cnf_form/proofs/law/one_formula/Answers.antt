@@ -1,4 +1,4 @@
-use Rattle.cnf_form.proofs.OneFormula.{one_formula}
+use Rattle.cnf_form.proofs.Formulas.OneFormula.{one_formula}
 use Rattle.cnf_form.proofs.law.one_formula.Goals as goal
 
 pub returns : goal.returns

@@ -1,4 +1,4 @@
-use Rattle.cnf_form.proofs.LogTexts.{one_log}
+use Rattle.cnf_form.proofs.Logs.LogTexts.{one_log}
 use Rattle.cnf_form.proofs.law.one_log.Goals as goal
 
 pub returns : goal.returns

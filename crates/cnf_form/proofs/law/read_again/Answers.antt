@@ -1,6 +1,6 @@
 use Rattle.cnf_form.specs.Texts.{cnf_text}
-use Rattle.cnf_form.proofs.CnfWritten.{cnf_text_has_form}
-use Rattle.cnf_form.proofs.OneFormula.{one_formula}
+use Rattle.cnf_form.proofs.Formulas.CnfWritten.{cnf_text_has_form}
+use Rattle.cnf_form.proofs.Formulas.OneFormula.{one_formula}
 use Rattle.cnf_form.proofs.law.read_again.Goals as goal
 
 pub returns-clause-form : goal.returns-clause-form

@@ -1,6 +1,6 @@
 use Rattle.std.proofs.Common.{refl}
 use Rattle.cnf_form.specs.Texts.{log_text}
-use Rattle.cnf_form.proofs.LogTexts.{one_log}
+use Rattle.cnf_form.proofs.Logs.LogTexts.{one_log}
 use Rattle.cnf_form.proofs.law.read_log_again.Goals as goal
 
 pub returns-clause-same : goal.returns-clause-same

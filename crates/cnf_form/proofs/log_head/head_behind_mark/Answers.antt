@@ -1,6 +1,6 @@
 use Rattle.std.proofs.Common.{length, arith}
 use Rattle.text_lines.proofs.Leaving.{not_empty, is_empty}
-use Rattle.cnf_form.proofs.LogHeads.{stray_number, stray_rest, whole_head}
+use Rattle.cnf_form.proofs.Logs.LogHeads.{stray_number, stray_rest, whole_head}
 use Rattle.cnf_form.proofs.log_head.head_behind_mark.Goals as goal
 
 pub returns-in_default-number_of : goal.returns-in_default-number_of

@@ -1,6 +1,6 @@
 use Rattle.std.proofs.Common.{◌≡◌, length, take, codes, ◌∙◌, ap, sym, arith}
 use Rattle.std.proofs.lemmas.Bool.{false≢true}
-use Rattle.cnf_form.proofs.LogHeads.{stops_in_mark, no_mark}
+use Rattle.cnf_form.proofs.Logs.LogHeads.{stops_in_mark, no_mark}
 use Rattle.cnf_form.proofs.log_head.log_head_of.Goals as goal
 
 pub returns-then-is_word : goal.returns-then-is_word

@@ -1,6 +1,6 @@
 use Rattle.std.proofs.Common.{length, arith}
 use Rattle.text_lines.proofs.Leaving.{not_empty, is_empty}
-use Rattle.cnf_form.proofs.LogHeads.{lacks_number, lacks_feed, open_stray}
+use Rattle.cnf_form.proofs.Logs.LogHeads.{lacks_number, lacks_feed, open_stray}
 use Rattle.cnf_form.proofs.log_head.open_head.Goals as goal
 
 pub returns-then-is_empty : goal.returns-then-is_empty

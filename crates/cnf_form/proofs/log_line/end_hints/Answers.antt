@@ -1,8 +1,9 @@
 use Rattle.std.proofs.Common.{length, sym, ◌∙◌, arith}
 use Rattle.std.proofs.lemmas.Bool.{false≢true}
 use Rattle.text_lines.proofs.Leaving.{not_empty, is_empty}
-use Rattle.cnf_form.proofs.LogLines.{hints_end, hints_grow_at_once, hints_grow_by, open_stray_hint, nothing_is}
+use Rattle.cnf_form.proofs.Logs.LogLines.{hints_end, hints_grow_at_once, hints_grow_by, open_stray_hint}
 use Rattle.cnf_form.proofs.log_line.end_hints.Goals as goal
+use Rattle.std.proofs.iter.SplitParts.{length_zero-nil}
 
 pub returns-then-is_word : goal.returns-then-is_word
 returns-then-is_word c =
@@ -10,7 +11,7 @@ returns-then-is_word c =
 
 pub returns-then-is_empty : goal.returns-then-is_empty
 returns-then-is_empty c =
-    rw (nothing_is c.args.rest.now (is_empty (length c.args.rest.now) c.is_empty.result c.is_empty.ensures c.if-is_empty.true)) (hints_grow_at_once c.args.clause c.args.hints.items c.requires.clause c.requires.small)
+    rw (length_zero-nil c.args.rest.now (is_empty (length c.args.rest.now) c.is_empty.result c.is_empty.ensures c.if-is_empty.true)) (hints_grow_at_once c.args.clause c.args.hints.items c.requires.clause c.requires.small)
 
 pub returns-in-Some : goal.returns-in-Some
 returns-in-Some c =

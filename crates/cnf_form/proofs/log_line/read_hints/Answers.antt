@@ -1,7 +1,7 @@
 use Rattle.std.proofs.Common.{◌+◌, sym, ◌∙◌, ap, arith}
 use Rattle.std.specs.Fmt.{decimal}
 use Rattle.std.proofs.lemmas.Fmt.{decimal_injective}
-use Rattle.cnf_form.proofs.LogLines.{stray_hint}
+use Rattle.cnf_form.proofs.Logs.LogLines.{stray_hint}
 use Rattle.cnf_form.proofs.log_line.read_hints.Goals as goal
 
 pub returns-in_default-number_of : goal.returns-in_default-number_of

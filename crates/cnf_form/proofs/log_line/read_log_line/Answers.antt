@@ -3,8 +3,8 @@ use Rattle.std.specs.Fmt.{signed_decimal}
 use Rattle.std.proofs.lemmas.Int.{to_z-of_z}
 use Rattle.cnf_form.specs.Texts.{literals_text}
 use Rattle.cnf_form.specs.LogReading.{IsLogCourse}
-use Rattle.cnf_form.proofs.Heads.{zero_is}
-use Rattle.cnf_form.proofs.LogLines.{stray_literal}
+use Rattle.cnf_form.proofs.Formulas.Heads.{zero_is}
+use Rattle.cnf_form.proofs.Logs.LogLines.{stray_literal}
 use Rattle.cnf_form.proofs.log_line.read_log_line.Goals as goal
 
 pub returns-in_default-next_number : goal.returns-in_default-next_number

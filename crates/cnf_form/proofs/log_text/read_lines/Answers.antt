@@ -5,7 +5,7 @@ use Rattle.cnf_form.specs.LogReading.{IsLogCourse}
 use Rattle.text_lines.proofs.Leaving.{is_empty}
 use Rattle.cnf_form.proofs.Naming.{line_clauses}
 use Rattle.text_lines.proofs.Onward.{cut_shorter}
-use Rattle.cnf_form.proofs.LogTexts.{too_many, no_line_here, line_cut_off, next_line, too_few, whole_log}
+use Rattle.cnf_form.proofs.Logs.LogTexts.{too_many, no_line_here, line_cut_off, next_line, too_few, whole_log}
 use Rattle.cnf_form.proofs.log_text.read_lines.Goals as goal
 
 pub returns-then-seen-count-clause-fault : goal.returns-then-seen-count-clause-fault

@@ -1,6 +1,6 @@
 use Rattle.std.proofs.Common.{length}
 use Rattle.text_lines.proofs.Leaving.{is_empty}
-use Rattle.cnf_form.proofs.LogTexts.{behind_head, head_cut_off, no_head_here, empty_text}
+use Rattle.cnf_form.proofs.Logs.LogTexts.{behind_head, head_cut_off, no_head_here, empty_text}
 use Rattle.cnf_form.proofs.log_text.read_log.Goals as goal
 
 pub returns-then-is_empty-clause-fault : goal.returns-then-is_empty-clause-fault

@@ -1,5 +1,5 @@
 use Rattle.std.proofs.Common.{◌≡◌, get_or, sym, ◌∙◌, arith}
-use Rattle.cnf_form.proofs.Decimals.{minus_split, no_integer_behind_minus, no_minus_zero}
+use Rattle.cnf_form.proofs.Words.Decimals.{minus_split, no_integer_behind_minus, no_minus_zero}
 use Rattle.cnf_form.proofs.number.integer_of.Goals as goal
 
 pub returns-in_err-number-in-45 : goal.returns-in_err-number-in-45

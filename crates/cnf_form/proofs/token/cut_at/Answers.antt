@@ -1,5 +1,5 @@
 use Rattle.std.proofs.Common.{arith}
-use Rattle.cnf_form.proofs.Tokens.{other_gap}
+use Rattle.cnf_form.proofs.Words.Tokens.{other_gap}
 use Rattle.cnf_form.proofs.token.cut_at.Goals as goal
 
 pub returns-then-text-end-clause-none : goal.returns-then-text-end-clause-none

@@ -1,6 +1,6 @@
 use Rattle.std.proofs.Common.{arith}
 use Rattle.std.proofs.lemmas.List.{take_rest}
-use Rattle.cnf_form.proofs.Wording.{cut}
+use Rattle.cnf_form.proofs.Words.Wording.{cut}
 use Rattle.cnf_form.proofs.word.first_word.Goals as goal
 
 pub returns-clause-some : goal.returns-clause-some

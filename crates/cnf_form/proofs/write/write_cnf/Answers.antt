@@ -1,4 +1,4 @@
-use Rattle.cnf_form.proofs.CnfWritten.{cnf_text_has_form}
+use Rattle.cnf_form.proofs.Formulas.CnfWritten.{cnf_text_has_form}
 use Rattle.cnf_form.proofs.write.write_cnf.Goals as goal
 
 pub returns-in-Ok-clause-form : goal.returns-in-Ok-clause-form

@@ -1,6 +1,6 @@
 use Rattle.std.proofs.Common.{◌≡◌, ◌++◌, false, map, drop, replicate}
 use Rattle.c_tree.specs.declared.program.Func.{Func}
-use Rattle.c_tree.specs.Blocks.{list_blocks}
+use Rattle.c_tree.specs.Meaning.Blocks.{list_blocks}
 use Rattle.cost_table.proofs.rows.plain_rows.Given as goal
 
 -- the rows made, and those of the functions that are left

@@ -1,8 +1,8 @@
 use Rattle.std.proofs.Common.{ap, subst, ◌∙◌}
 use Rattle.std.proofs.lemmas.Result.{IfOk-weaker}
 use Rattle.toml.specs.View.{table_view}
-use Rattle.c_tree.specs.Claims.{AreRowsOf}
-use Rattle.c_tree.specs.Programs.{Program}
+use Rattle.c_tree.specs.Meaning.Claims.{AreRowsOf}
+use Rattle.c_tree.specs.Keeping.Programs.{Program}
 use Rattle.cost_table.proofs.BlockCosts.{verdict_costs}
 use Rattle.cost_table.proofs.table.costs.Goals as goal
 

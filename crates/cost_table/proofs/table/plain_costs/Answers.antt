@@ -1,6 +1,6 @@
 use Rattle.std.proofs.Common.{ap, sym, subst, ◌∙◌}
-use Rattle.c_tree.specs.Claims.{AreRowsOf}
-use Rattle.c_tree.specs.Programs.{Program}
+use Rattle.c_tree.specs.Meaning.Claims.{AreRowsOf}
+use Rattle.c_tree.specs.Keeping.Programs.{Program}
 use Rattle.cost_table.proofs.BlockCosts.{are_plain}
 use Rattle.cost_table.proofs.table.plain_costs.Goals as goal
 

@@ -1,9 +1,9 @@
 use Rattle.std.proofs.Common.{◌+◌, ◌*◌, max, ◌++◌, [], false, drop}
-use Rattle.c_tree.specs.Blocks.{list_blocks}
+use Rattle.c_tree.specs.Meaning.Blocks.{list_blocks}
 use Rattle.flow_laws.specs.Graphs.{copies}
 use Rattle.flow_laws.specs.Sites.{list_size}
-use Rattle.flow_graph.specs.Layout.{copies_above, place, targets, list_spots, laid_out}
-use Rattle.flow_graph.proofs.Along.{Stands}
+use Rattle.flow_graph.specs.Layout.{copies_above, position_at, lead_targets, list_spots, laid_out}
+use Rattle.flow_graph.proofs.Layouts.Along.{Stands}
 use Rattle.flow_graph.proofs.layout.+emit.Given as goal
 
 -- what is laid out, and then the rest, is the whole
@@ -11,8 +11,8 @@ abbrev pub invariant-emit_list-loop-stmt : goal.invariant-emit_list-loop-stmt
 invariant-emit_list-loop-stmt l =
     let all = copies [] l.scope.funcs.now in
     let cs = copies_above l.scope.funcs.now l.scope.func in
-    let w = place l.scope.func l.scope.chain.now l.at.scale in
-    Stands all cs w (targets l.k) (drop l.stmt-index l.list) l.run l.block l.node l.left l.out (laid_out all l.initial.out ++ list_spots cs w l.list l.at.block l.at.node false (targets l.k)) (l.at.node + list_size cs l.list false) (l.at.block + list_blocks l.list false)
+    let w = position_at l.scope.func l.scope.chain.now l.at.scale in
+    Stands all cs w (lead_targets l.k) (drop l.stmt-index l.list) l.run l.block l.node l.left l.out (laid_out all l.initial.out ++ list_spots cs w l.list l.at.block l.at.node false (lead_targets l.k)) (l.at.node + list_size cs l.list false) (l.at.block + list_blocks l.list false)
 
 -- a statement, below a list or a part that has it, below what has several
 

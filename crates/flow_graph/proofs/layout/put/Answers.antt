@@ -1,4 +1,4 @@
-use Rattle.flow_graph.proofs.Laid.{laid_one}
+use Rattle.flow_graph.proofs.Layouts.Laid.{laid_one}
 use Rattle.flow_graph.proofs.layout.put.Goals as goal
 
 pub returns-clause-items : goal.returns-clause-items

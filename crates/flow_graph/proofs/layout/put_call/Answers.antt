@@ -1,8 +1,8 @@
 use Rattle.std.proofs.Common.{◌≡◌, ◌∙◌, ap, sym, refl, arith, Some, None}
 use Rattle.std.specs.Prelude.{slice_get}
-use Rattle.flow_graph.specs.Layout.{place, spot_at}
+use Rattle.flow_graph.specs.Layout.{position_at, spot_at}
 use Rattle.graph_lists.specs.declared.spot.Ends.TheVariants as ends
-use Rattle.flow_graph.proofs.Called.{known, unknown, room, called, missed}
+use Rattle.flow_graph.proofs.Layouts.Called.{known, unknown, room, called, missed}
 use Rattle.flow_graph.proofs.layout.put_call.Goals as goal
 
 pub overflow_cast-size : goal.overflow_cast-size
@@ -30,5 +30,5 @@ returns-clause-items c t es =
     let a = c.args in
     let e : slice_get a.scope.above.now a.callee ≡ Some c.in-Some.size = sym c.size_above.ensures ∙ c.in-Some.is in
     let k = known a.scope.funcs.now a.scope.above.now a.scope.func a.callee c.in-Some.size a.at.node c.requires.known e c.requires.room in
-    let enter = c.in_ok-enter.ensures ∙ ap (λ x. spot_at (place a.scope.func a.scope.chain.now a.at.scale) a.at.block ends.Once x x) c.head-head.ensures in
+    let enter = c.in_ok-enter.ensures ∙ ap (λ x. spot_at (position_at a.scope.func a.scope.chain.now a.at.scale) a.at.block ends.Once x x) c.head-head.ensures in
     called a.scope.funcs.now a.scope.func a.callee a.scope.chain.now a.at.scale a.at.block a.at.node a.next c.in-Some.size a.out.now c.push-2.new.self c.push-3.new.self c.in_ok-enter.enter c.in_ok-landing-2.landing _ _ t es k c.requires.room c.in_ok-push-2.ensures.ok c.in_ok-push-3.ensures.ok enter refl refl c.in_ok-landing-2.ensures

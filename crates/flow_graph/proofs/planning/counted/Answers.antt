@@ -1,5 +1,5 @@
 use Rattle.std.proofs.Common.{◌∙◌, ◌<◌, [], ap, length, subst, sym}
-use Rattle.c_tree.specs.Programs.{Program}
+use Rattle.c_tree.specs.Keeping.Programs.{Program}
 use Rattle.graph_lists.specs.Amounts.{amounts}
 use Rattle.flow_graph.proofs.Measured.{amount_at, read_at}
 use Rattle.flow_graph.proofs.planning.counted.Goals as goal

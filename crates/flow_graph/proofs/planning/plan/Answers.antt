@@ -1,6 +1,6 @@
 use Rattle.std.proofs.Common.{◌∙◌, ap, sym, arith, length}
 use Rattle.flow_laws.specs.Graphs.{graph}
-use Rattle.flow_laws.proofs.Turned.{graph_turned}
+use Rattle.flow_laws.proofs.Loops.LoopConditions.{graph_turned}
 use Rattle.graph_lists.specs.Joints.{spot_edges, spot_loops}
 use Rattle.graph_lists.specs.Leaving.{all_outs}
 use Rattle.graph_lists.specs.Spans.{spot_spans}

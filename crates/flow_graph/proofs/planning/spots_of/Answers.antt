@@ -1,11 +1,11 @@
 use Rattle.std.proofs.Common.{◌∙◌, ap, sym, subst, []}
 use Rattle.std.specs.Prelude.{slice_get}
-use Rattle.c_tree.specs.Programs.{Program}
+use Rattle.c_tree.specs.Keeping.Programs.{Program}
 use Rattle.flow_laws.specs.Graphs.{copies}
 use Rattle.flow_graph.specs.Layout.{HasRoom}
-use Rattle.flow_graph.proofs.Laid.{if_ok}
 use Rattle.flow_graph.proofs.Measured.{entered, entry_room, spots_are}
 use Rattle.flow_graph.proofs.planning.spots_of.Goals as goal
+use Rattle.std.proofs.result.Match.{if_ok_then}
 
 pub lay_out-requires-clause-room : goal.lay_out-requires-clause-room
 lay_out-requires-clause-room c =
@@ -16,4 +16,4 @@ lay_out-requires-clause-room c =
     (subst (λ fs. HasRoom (slice_get (copies [] fs) p.entry) 2) (sym funcs_is) (entry_room p (entered p c.requires.formed.entry) c.requires.few))
 
 pub returns : goal.returns
-returns c = rw (← c.program.view_is) (if_ok c.lay_out.result _ _ (λ s h. h ∙ spots_are _ _ c.as_slice-funcs.ensures) c.lay_out.ensures)
+returns c = rw (← c.program.view_is) (if_ok_then c.lay_out.result _ _ (λ s h. h ∙ spots_are _ _ c.as_slice-funcs.ensures) c.lay_out.ensures)

@@ -2,7 +2,7 @@ use Rattle.std.proofs.Common.{[], ◌∙◌, ap}
 use Rattle.flow_graph.specs.Layout.{outer_spot}
 use Rattle.graph_lists.specs.declared.spot.Ends.TheVariants as ends
 use Rattle.flow_laws.specs.Graphs.{copies}
-use Rattle.flow_graph.proofs.Unfolded.{begun, stepped, smaller}
+use Rattle.flow_graph.proofs.Layouts.Unfolded.{begun, stepped, smaller}
 use Rattle.flow_graph.proofs.unfold.lay_out.Goals as goal
 
 pub nodes-init : goal.nodes-init

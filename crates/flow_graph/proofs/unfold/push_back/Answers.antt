@@ -1,6 +1,6 @@
 use Rattle.std.proofs.Common.{[]}
 use Rattle.flow_laws.specs.Graphs.{copies}
-use Rattle.flow_graph.proofs.Unfolded.{moved}
+use Rattle.flow_graph.proofs.Layouts.Unfolded.{moved}
 use Rattle.flow_graph.proofs.unfold.push_back.Goals as goal
 
 pub items-preserved : goal.items-preserved

@@ -1,6 +1,6 @@
 -- What is wrong where tokens spell no tree.
 use Rattle.std.proofs.Common.{sym, subst}
-use Rattle.c_tree.specs.Lexing.{Lexes}
+use Rattle.c_tree.specs.Tokens.Lexing.{Lexes}
 use Rattle.front_end.proofs.Stopping.{parse_failed}
 use Rattle.front_end.proofs.reading.unit_of.Goals as goal
 

@@ -1,8 +1,8 @@
 -- A plan's part has room, and what is computed of it is the peak.
 use Rattle.std.proofs.Common.{◌≡◌, None, arith, ap, sym, ◌∙◌, subst}
 use Rattle.std.specs.Prelude.{pos}
-use Rattle.c_tree.specs.WellFormed.{WellFormed}
-use Rattle.flow_graph.specs.Limits.{refusal}
+use Rattle.c_tree.specs.Keeping.WellFormed.{WellFormed}
+use Rattle.flow_graph.specs.Limits.{size_fault}
 use Rattle.flow_graph.specs.Plans.{Planned}
 use Rattle.flow_laws.specs.Graphs.{graph}
 use Rattle.ipet_rows.specs.CapsBound.{AreSmall}
@@ -12,8 +12,8 @@ use Rattle.peak_laws.specs.Magnitudes.{cap_cost}
 use Rattle.peak_laws.specs.Parts.{Part}
 use Rattle.peak_laws.specs.Peaks.{IsPeakOf}
 use Rattle.peak_laws.specs.ProgramParts.{program_part}
-use Rattle.peak_laws.proofs.Above.{runs_within}
-use Rattle.peak_laws.proofs.Computed.{is_peak}
+use Rattle.peak_laws.proofs.Optima.Above.{runs_within}
+use Rattle.peak_laws.proofs.Optima.Computed.{is_peak}
 use Rattle.ipet_peak.specs.Trees.{part_of}
 use Rattle.ipet_peak.proofs.PlanRoom.{HasRoom, plan_room, if_all}
 use Rattle.ipet_peak.proofs.TreeLayers.{keeps_at}
@@ -35,7 +35,7 @@ peak_of_tree-requires c =
     let room : HasRoom (part_of c.get.result.now) = subst HasRoom (sym is) (plan_room n.program n.costs c.program.ensures.formed small c.program.ensures.allowed) in
     record { keeps = keeps_at _ _ c.get.ensures c.in_ok-tree.ensures.keeps; light = room.light; room = room.room; fit = room.fit }
 
-peak_is : (n : Planned) (q : Part) (peak : Peak) → WellFormed n.program → AreSmall n.costs → refusal (graph n.program) ≡ None → q ≡ program_part n.program n.costs
+peak_is : (n : Planned) (q : Part) (peak : Peak) → WellFormed n.program → AreSmall n.costs → size_fault (graph n.program) ≡ None → q ≡ program_part n.program n.costs
     → peak.value ≡ peak_value q → peak.counts ≡ peak_counts q → peak.by.d ≡ pos 1 → peak.by.y ≡ peak_multipliers q → IsPeakOf n peak
 peak_is n q peak formed small allowed is value counts divisor multipliers =
     is_peak n peak formed small allowed (record { value = value ∙ ap peak_value is; counts = counts ∙ ap peak_counts is; divisor = divisor; multipliers = multipliers ∙ ap peak_multipliers is })

@@ -4,8 +4,8 @@ use Rattle.ipet_peak.specs.declared.tree.Tree.{the_lemmas}
 use Rattle.peak_laws.specs.Parts as spec
 use Rattle.peak_laws.specs.Flows as counts
 use Rattle.peak_laws.specs.Magnitudes.{cap_cost}
-use Rattle.ipet_peak.specs.Trees.{part_of, amounts, FitsCaps}
-use Rattle.peak_laws.proofs.Conserved.{then_whole, choice_whole, body_whole}
+use Rattle.ipet_peak.specs.Trees.{part_of, amount_targets, FitsCaps}
+use Rattle.peak_laws.proofs.Attaining.Conserved.{then_whole, choice_whole, body_whole}
 use Rattle.ipet_peak.proofs.TreeLayers.{room_then, room_choice, room_while, room_do, room_body, keeps_then, keeps_choice, keeps_while, keeps_do, keeps_body, keeps_at}
 use Rattle.ipet_peak.proofs.PushedFlows.{then_most, fit_less, fit_then, fit_choice, fit_while, fit_do, fit_body, none_added, two_added, three_added, four_added, flows_nothing, flows_then, flows_choice, flows_while, flows_do}
 use Rattle.ipet_peak.proofs.flows.+push_flows.Goals as goal
@@ -14,7 +14,7 @@ pub push_flows-requires : goal.push_flows-requires
 push_flows-requires t c =
     let light = (room_then _ _ _ _ _ c.in-Then.is c.requires.light).0 in
     let p = c.get-in-Then-2.result.now in
-    let k = amounts c.args.a in
+    let k = amount_targets c.args.a in
     let fit : FitsCaps (part_of p) (counts.whole k) = subst (λ y. FitsCaps (part_of y) (counts.whole k)) (sym c.get-in-Then-2.ensures) (fit_then _ _ _ _ _ c.in-Then.is c.requires.fit).0 in
     let same = ap counts.whole c.then_shares-shares.ensures.first ∙ then_whole (spec.dearest_ways (part_of c.get.result.now)) (spec.dearest_ways (part_of c.get-in-Then.result.now)) k in
     let s = keeps_then _ _ _ _ c.in-Then.is c.requires.keeps in
@@ -24,7 +24,7 @@ pub push_flows-requires-in-Then : goal.push_flows-requires-in-Then
 push_flows-requires-in-Then t c =
     let light = (room_then _ _ _ _ _ c.in-Then.is c.requires.light).1 in
     let q = c.get-in-Then-3.result.now in
-    let k = amounts c.args.a in
+    let k = amount_targets c.args.a in
     let fit : FitsCaps (part_of q) (counts.whole k) = subst (λ y. FitsCaps (part_of y) (counts.whole k)) (sym c.get-in-Then-3.ensures) (fit_then _ _ _ _ _ c.in-Then.is c.requires.fit).1 in
     let most = then_most (spec.dearest_ways (part_of c.get.result.now)) (spec.dearest_ways (part_of c.get-in-Then.result.now)) k in
     let s = keeps_then _ _ _ _ c.in-Then.is c.requires.keeps in
@@ -32,17 +32,17 @@ push_flows-requires-in-Then t c =
 
 pub whole-requires : goal.whole-requires
 whole-requires t c =
-    omega (arith, c.requires.fit.entries, ap counts.whole c.choice_shares-shares.ensures.first, choice_whole (spec.dearest_ways (part_of c.get-in-Choice.result.now)) (spec.dearest_ways (part_of c.get-in-Choice-2.result.now)) (amounts c.args.a))
+    omega (arith, c.requires.fit.entries, ap counts.whole c.choice_shares-shares.ensures.first, choice_whole (spec.dearest_ways (part_of c.get-in-Choice.result.now)) (spec.dearest_ways (part_of c.get-in-Choice-2.result.now)) (amount_targets c.args.a))
 
 pub whole-requires-in-Choice : goal.whole-requires-in-Choice
 whole-requires-in-Choice t c =
-    omega (arith, c.requires.fit.entries, ap counts.whole c.choice_shares-shares.ensures.second, choice_whole (spec.dearest_ways (part_of c.get-in-Choice.result.now)) (spec.dearest_ways (part_of c.get-in-Choice-2.result.now)) (amounts c.args.a))
+    omega (arith, c.requires.fit.entries, ap counts.whole c.choice_shares-shares.ensures.second, choice_whole (spec.dearest_ways (part_of c.get-in-Choice.result.now)) (spec.dearest_ways (part_of c.get-in-Choice-2.result.now)) (amount_targets c.args.a))
 
 pub push_flows-requires-in-Choice : goal.push_flows-requires-in-Choice
 push_flows-requires-in-Choice t c =
     let light = (room_choice _ _ _ _ _ _ c.in-Choice.is c.requires.light).0 in
     let p = c.get-in-Choice-3.result.now in
-    let k = amounts c.args.a in
+    let k = amount_targets c.args.a in
     let fit : FitsCaps (part_of p) (counts.whole k) = subst (λ y. FitsCaps (part_of y) (counts.whole k)) (sym c.get-in-Choice-3.ensures) (fit_choice _ _ _ _ _ _ c.in-Choice.is c.requires.fit).0 in
     let same = choice_whole (spec.dearest_ways (part_of c.get-in-Choice.result.now)) (spec.dearest_ways (part_of c.get-in-Choice-2.result.now)) k in
     let s = keeps_choice _ _ _ _ _ c.in-Choice.is c.requires.keeps in
@@ -52,7 +52,7 @@ pub push_flows-requires-in-Choice-2 : goal.push_flows-requires-in-Choice-2
 push_flows-requires-in-Choice-2 t c =
     let light = (room_choice _ _ _ _ _ _ c.in-Choice.is c.requires.light).1 in
     let p = c.get-in-Choice-4.result.now in
-    let k = amounts c.args.a in
+    let k = amount_targets c.args.a in
     let fit : FitsCaps (part_of p) (counts.whole k) = subst (λ y. FitsCaps (part_of y) (counts.whole k)) (sym c.get-in-Choice-4.ensures) (fit_choice _ _ _ _ _ _ c.in-Choice.is c.requires.fit).1 in
     let same = choice_whole (spec.dearest_ways (part_of c.get-in-Choice.result.now)) (spec.dearest_ways (part_of c.get-in-Choice-2.result.now)) k in
     let s = keeps_choice _ _ _ _ _ c.in-Choice.is c.requires.keeps in
@@ -62,7 +62,7 @@ pub push_flows-requires-in-While : goal.push_flows-requires-in-While
 push_flows-requires-in-While t c =
     let light = (room_while _ _ _ _ _ _ _ c.in-While.is c.requires.light).0 in
     let p = c.get-in-While-2.result.now in
-    let k = counts.whole (amounts c.args.a) * (c.in-While.m + 1) in
+    let k = counts.whole (amount_targets c.args.a) * (c.in-While.m + 1) in
     let fit : FitsCaps (part_of p) k = subst (λ y. FitsCaps (part_of y) k) (sym c.get-in-While-2.ensures) (fit_while _ _ _ _ _ _ _ c.in-While.is c.requires.fit) in
     let s = keeps_while _ _ _ _ _ _ c.in-While.is c.requires.keeps in
     (search (rules, the_lemmas), (keeps_at _ _ c.get-in-While-2.ensures s.body, (omega (arith, light, ap (λ y. cap_cost (part_of y)) c.get-in-While-2.ensures), fit_less (part_of p) _ k c.while_turns-turns.ensures.fits fit)))
@@ -74,7 +74,7 @@ pub push_flows-requires-in-Do : goal.push_flows-requires-in-Do
 push_flows-requires-in-Do t c =
     let light = (room_do _ _ _ _ _ _ c.in-Do.is c.requires.light).0 in
     let p = c.get-in-Do-2.result.now in
-    let k = counts.whole (amounts c.args.a) * (c.in-Do.m + 1) in
+    let k = counts.whole (amount_targets c.args.a) * (c.in-Do.m + 1) in
     let fit : FitsCaps (part_of p) k = subst (λ y. FitsCaps (part_of y) k) (sym c.get-in-Do-2.ensures) (fit_do _ _ _ _ _ _ c.in-Do.is c.requires.fit) in
     let s = keeps_do _ _ _ _ _ c.in-Do.is c.requires.keeps in
     (search (rules, the_lemmas), (keeps_at _ _ c.get-in-Do-2.ensures s.body, (omega (arith, light, ap (λ y. cap_cost (part_of y)) c.get-in-Do-2.ensures), fit_less (part_of p) _ k c.do_turns-turns.ensures.fits fit)))
@@ -83,7 +83,7 @@ pub push_flows-requires-in-Body : goal.push_flows-requires-in-Body
 push_flows-requires-in-Body t c =
     let light = room_body _ _ _ _ c.in-Body.is c.requires.light in
     let p = c.get-in-Body.result.now in
-    let k = counts.whole (amounts c.args.a) in
+    let k = counts.whole (amount_targets c.args.a) in
     let fit : FitsCaps (part_of p) k = subst (λ y. FitsCaps (part_of y) k) (sym c.get-in-Body.ensures) (fit_body _ _ _ _ c.in-Body.is c.requires.fit) in
     let same = ap counts.whole c.body_amounts.ensures ∙ body_whole c.dearest_ways.result c.args.a.next in
     let s = keeps_body _ _ _ c.in-Body.is c.requires.keeps in

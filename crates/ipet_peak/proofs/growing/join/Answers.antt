@@ -1,12 +1,12 @@
 -- Two trees one after the other are made of the last two.
 use Rattle.std.proofs.Common.{◌∷◌, arith, ap, ◌∙◌}
-use Rattle.flow_graph.proofs.Laid.{if_ok}
 use Rattle.peak_laws.specs.Magnitudes.{cap_cost}
 use Rattle.peak_laws.specs.ProgramParts.{sequence}
 use Rattle.ipet_peak.specs.Pieces.{last_part, earlier_parts}
 use Rattle.ipet_peak.specs.Trees.{parts_of}
 use Rattle.ipet_peak.proofs.Grown.{makes_of, join_room}
 use Rattle.ipet_peak.proofs.growing.join.Goals as goal
+use Rattle.std.proofs.result.Match.{if_ok_then}
 
 pub sequence-requires-clause-room : goal.sequence-requires-clause-room
 sequence-requires-clause-room c =
@@ -20,4 +20,4 @@ returns c =
     let first = c.in_ok-first.ensures.last.part in
     let second = c.in_ok-second.ensures.last.part ∙ ap last_part c.take_last.ensures.before in
     let before = c.take_last-2.ensures.before ∙ ap earlier_parts c.take_last.ensures.before in
-    if_ok c.sequence.result _ _ (λ t is. makes_of t _ _ _ _ is before c.take_last-2.ensures.kept (λ i. sequence (first i) (second i) ∷ earlier_parts (earlier_parts ps))) c.sequence.ensures
+    if_ok_then c.sequence.result _ _ (λ t is. makes_of t _ _ _ _ is before c.take_last-2.ensures.kept (λ i. sequence (first i) (second i) ∷ earlier_parts (earlier_parts ps))) c.sequence.ensures

@@ -1,12 +1,12 @@
 -- A loop is made of the last tree.
 use Rattle.std.proofs.Common.{◌≤◌, ◌^◌, ◌∷◌, arith, sym, subst}
-use Rattle.flow_graph.proofs.Laid.{if_ok}
 use Rattle.peak_laws.specs.Parts as spec
 use Rattle.peak_laws.specs.Magnitudes.{cap_cost}
 use Rattle.ipet_peak.specs.Pieces.{earlier_parts}
 use Rattle.ipet_peak.specs.Trees.{parts_of}
 use Rattle.ipet_peak.proofs.Grown.{makes_of}
 use Rattle.ipet_peak.proofs.growing.turn_while.Goals as goal
+use Rattle.std.proofs.result.Match.{if_ok_then}
 
 pub while_tree-requires-clause-room : goal.while_tree-requires-clause-room
 while_tree-requires-clause-room c =
@@ -16,4 +16,4 @@ pub returns : goal.returns
 returns c =
     let ps = parts_of c.args.trees.now in
     let body = c.in_ok-body.ensures.last.part in
-    if_ok c.while_tree.result _ _ (λ t is. makes_of t _ _ _ _ is c.take_last.ensures.before c.take_last.ensures.kept (λ i. spec.While c.args.c c.args.m c.args.step (body i) ∷ earlier_parts ps)) c.while_tree.ensures
+    if_ok_then c.while_tree.result _ _ (λ t is. makes_of t _ _ _ _ is c.take_last.ensures.before c.take_last.ensures.kept (λ i. spec.While c.args.c c.args.m c.args.step (body i) ∷ earlier_parts ps)) c.while_tree.ensures

@@ -1,5 +1,5 @@
 use Rattle.std.proofs.Common.{◌+◌, drop, false}
-use Rattle.c_tree.specs.Blocks.{list_blocks}
+use Rattle.c_tree.specs.Meaning.Blocks.{list_blocks}
 use Rattle.peak_laws.specs.ProgramParts.{list_part}
 use Rattle.ipet_peak.specs.Pieces.{parts_above, costs_after}
 use Rattle.ipet_peak.proofs.PartSteps.{Stands}

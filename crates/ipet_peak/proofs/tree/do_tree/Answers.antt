@@ -19,7 +19,7 @@ do_ways-ways-requires-clause-room c =
     let p = part_of c.args.a in
     let none : c.args.c ≡ c.args.c + 0 = omega arith in
     let body = c.dearest_ways-body.ensures ∙ ap (λ y. spec.dearest_ways (part_of y)) c.get.ensures in
-    let y = c.turn_cost.ensures ∙ (λ i. spec.turn_cost ((c.from-cost.ensures ∙ none) i) (spec.back (body i))) in
+    let y = c.turn_cost.ensures ∙ (λ i. spec.turn_cost ((c.from-cost.ensures ∙ none) i) (spec.way_back (body i))) in
     subst (λ z. z ≤ 2 ^ 126) (sym (λ i. c.from.ensures i * y i + c.from-cost.ensures i)) (omega (arith, do_light c.args.c c.args.m p, c.requires.room))
 
 pub do_ways-ways-requires-clause-a : goal.do_ways-ways-requires-clause-a
@@ -30,5 +30,5 @@ pub returns : goal.returns
 returns c =
     let none : c.args.c ≡ c.args.c + 0 = omega arith in
     let body = c.dearest_ways-body.ensures ∙ ap (λ y. spec.dearest_ways (part_of y)) c.get.ensures in
-    let y = c.turn_cost.ensures ∙ (λ i. spec.turn_cost ((c.from-cost.ensures ∙ none) i) (spec.back (body i))) in
+    let y = c.turn_cost.ensures ∙ (λ i. spec.turn_cost ((c.from-cost.ensures ∙ none) i) (spec.way_back (body i))) in
     tree-Do _ _ _ _ _ c.in_ok-new.ensures (c.do_ways-ways.ensures ∙ (λ i. spec.do_ways (c.from-cost.ensures i) (c.from.ensures i) (y i) (body i))) c.requires.a

@@ -18,7 +18,7 @@ pub while_ways-ways-requires-clause-room : goal.while_ways-ways-requires-clause-
 while_ways-ways-requires-clause-room c =
     let p = part_of c.args.a in
     let body = c.dearest_ways-body.ensures ∙ ap (λ y. spec.dearest_ways (part_of y)) c.get.ensures in
-    let y = c.turn_cost-turn.ensures ∙ (λ i. spec.turn_cost (c.from-cost.ensures i + c.step_cost.ensures.value i) (spec.back (body i))) in
+    let y = c.turn_cost-turn.ensures ∙ (λ i. spec.turn_cost (c.from-cost.ensures i + c.step_cost.ensures.value i) (spec.way_back (body i))) in
     subst (λ z. z ≤ 2 ^ 126) (sym (λ i. (c.from.ensures i + 1) * y i + c.from-cost.ensures i)) (omega (arith, while_light c.args.c c.args.m c.args.step p, c.requires.room))
 
 pub while_ways-ways-requires-clause-a : goal.while_ways-ways-requires-clause-a
@@ -28,5 +28,5 @@ while_ways-ways-requires-clause-a c =
 pub returns : goal.returns
 returns c =
     let body = c.dearest_ways-body.ensures ∙ ap (λ y. spec.dearest_ways (part_of y)) c.get.ensures in
-    let y = c.turn_cost-turn.ensures ∙ (λ i. spec.turn_cost (c.from-cost.ensures i + c.step_cost.ensures.value i) (spec.back (body i))) in
+    let y = c.turn_cost-turn.ensures ∙ (λ i. spec.turn_cost (c.from-cost.ensures i + c.step_cost.ensures.value i) (spec.way_back (body i))) in
     tree-While _ _ _ _ _ _ c.in_ok-new.ensures (c.while_ways-ways.ensures ∙ (λ i. spec.while_ways (c.from-cost.ensures i) (c.from.ensures i) (y i) (body i))) c.requires.a

@@ -81,12 +81,12 @@ pub returns-in_ok-push_turns-in-While : goal.returns-in_ok-push_turns-in-While
 returns-in_ok-push_turns-in-While t c =
     let f : SFits w128 c.turn.result = search rules in
     let item = simp to_z-of_z at c.in_ok-push-in-While.ensures.ok in
-    let v : spec.turn_cost (c.from.result + c.step_cost.result) (spec.back (spec.dearest_ways (part_of c.get-in-While.result.now))) ≡ spec.turn c.in-While.c c.in-While.step (spec.dearest_ways (part_of c.in-While.a)) = λ i. spec.turn_cost (c.from.ensures i + c.step_cost.ensures.value i) (spec.back (spec.dearest_ways (part_of (c.get-in-While.ensures i)))) in
+    let v : spec.turn_cost (c.from.result + c.step_cost.result) (spec.way_back (spec.dearest_ways (part_of c.get-in-While.result.now))) ≡ spec.full_turn_cost c.in-While.c c.in-While.step (spec.dearest_ways (part_of c.in-While.a)) = λ i. spec.turn_cost (c.from.ensures i + c.step_cost.ensures.value i) (spec.way_back (spec.dearest_ways (part_of (c.get-in-While.ensures i)))) in
     two_pushed _ _ _ (_ ∷ []) _ _ (item ∙ ap (λ z. c.args.out.now ++ z ∷ []) c.turn.ensures) c.in_ok-push_turns-in-While.ensures (turns_while _ _ _ _ _ _ _ _ c.in-While.is c.get-in-While-2.ensures v)
 
 pub returns-in_ok-push-in-Do : goal.returns-in_ok-push-in-Do
 returns-in_ok-push-in-Do t c =
     let f : SFits w128 c.turn-in-Do.result = search rules in
     let item = simp to_z-of_z at c.in_ok-push-in-Do.ensures.ok in
-    let v : spec.turn_cost (c.from-in-Do.result + 0) (spec.back (spec.dearest_ways (part_of c.get-in-Do-2.result.now))) ≡ spec.turn c.in-Do.c None (spec.dearest_ways (part_of c.in-Do.a)) = λ i. spec.turn_cost (c.from-in-Do.ensures i + 0) (spec.back (spec.dearest_ways (part_of (c.get-in-Do-2.ensures i)))) in
+    let v : spec.turn_cost (c.from-in-Do.result + 0) (spec.way_back (spec.dearest_ways (part_of c.get-in-Do-2.result.now))) ≡ spec.full_turn_cost c.in-Do.c None (spec.dearest_ways (part_of c.in-Do.a)) = λ i. spec.turn_cost (c.from-in-Do.ensures i + 0) (spec.way_back (spec.dearest_ways (part_of (c.get-in-Do-2.ensures i)))) in
     two_pushed _ _ _ _ (_ ∷ []) _ c.in_ok-push_turns-in-Do.ensures (item ∙ ap (λ z. c.push_turns-in-Do.new.out ++ z ∷ []) c.turn-in-Do.ensures) (turns_do _ _ _ _ _ _ _ c.in-Do.is c.get-in-Do.ensures v)

@@ -13,4 +13,4 @@ turn_multiplier-requires-clause-a c = small_ways _ _ _ c.dearest_ways.ensures c.
 pub returns : goal.returns
 returns c =
     let f : SFits w128 c.turn_multiplier.result = search rules in
-    to_z-of_z w128 c.turn_multiplier.result f ∙ c.turn_multiplier.ensures ∙ ap (λ w. pos (spec.turn_cost (c.args.c + c.args.step) (spec.back w))) c.dearest_ways.ensures
+    to_z-of_z w128 c.turn_multiplier.result f ∙ c.turn_multiplier.ensures ∙ ap (λ w. pos (spec.turn_cost (c.args.c + c.args.step) (spec.way_back w))) c.dearest_ways.ensures

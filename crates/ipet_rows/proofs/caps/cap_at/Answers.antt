@@ -1,6 +1,6 @@
 use Rattle.std.proofs.Common.{◌∙◌, ap, sym}
 use Rattle.flow_laws.specs.Graphs.{graph}
-use Rattle.flow_laws.proofs.Ends.{edges_join}
+use Rattle.flow_laws.proofs.Graphs.EndsLead.{edges_join}
 use Rattle.ipet_rows.specs.CapsBound.{cap_at}
 use Rattle.ipet_rows.proofs.Listed.{cap_is}
 use Rattle.ipet_rows.proofs.caps.cap_at.Goals as goal

@@ -1,7 +1,7 @@
 use Rattle.std.proofs.Common.{ap, sym, ◌∙◌, length}
 use Rattle.flow_laws.specs.Graphs.{graph, edges}
-use Rattle.item_bounds.proofs.Covered.{costs_long}
 use Rattle.item_bounds.proofs.bound.bound_by.Goals as goal
+use Rattle.ipet_rows.proofs.Counting.{costs_long}
 
 pub dual_bound-requires-clause-costs : goal.dual_bound-requires-clause-costs
 dual_bound-requires-clause-costs c =

@@ -1,5 +1,5 @@
 use Rattle.std.proofs.Common.{◌≡◌, ◌∷◌, ◌++◌, [], ap, ◌∙◌, sym, subst, List}
-use Rattle.c_tree.specs.WellFormed.{WellFormed}
+use Rattle.c_tree.specs.Keeping.WellFormed.{WellFormed}
 use Rattle.flow_graph.specs.Plans.{Planned}
 use Rattle.ipet_rows.specs.Sound.{PlanRows}
 use Rattle.race_item.specs.declared.region.Child.{Child}

@@ -1,5 +1,5 @@
 use Rattle.std.proofs.Common.{◌≡◌, ap, ◌∙◌, List, ℤ, pos, length, replicate}
-use Rattle.c_tree.specs.Runs.{input_types}
+use Rattle.c_tree.specs.Meaning.Runs.{input_types}
 use Rattle.item_turn.proofs.Trying.{nothing_weighs, inputs_of}
 use Rattle.item_turn.proofs.trial.zeros.Goals as goal
 

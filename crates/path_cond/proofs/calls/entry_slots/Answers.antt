@@ -1,9 +1,9 @@
 use Rattle.std.proofs.Common.{length, option_copied, sym, subst}
-use Rattle.term_steps.proofs.Growing.{next_item}
 use Rattle.path_cond.specs.Parts as part
 use Rattle.path_cond.proofs.StartRuns.{slots_pushed}
 use Rattle.path_cond.proofs.CallRuns.{given_at, given_more, entry_next, small_next}
 use Rattle.path_cond.proofs.calls.entry_slots.Goals as goal
+use Rattle.plain_laws.proofs.Lists.{drop-read}
 
 pub entry_slot-requires-clause-there : goal.entry_slot-requires-clause-there
 entry_slot-requires-clause-there c =
@@ -15,7 +15,7 @@ loop-at-preserved c =
     let l = c.loop-at in
     let ls = c.args.locals.now in
     let local = c.index-locals-at.result in
-    let at = next_item ls l.at local c.loop-at-test.true c.index-locals-at.is in
+    let at = drop-read ls l.at local c.loop-at-test.true c.index-locals-at.is in
     record {
       rest = entry_next ls local l.at c.args.given.now (option_copied c.at.result) l.slots _ at c.at.ensures l.invariant.rest c.in_ok-slot.ensures c.in_ok-push.ensures.ok;
       there = slots_pushed c.in_ok-slot.slot l.slots _ l.invariant.there c.in_ok-slot.ensures.grows c.in_ok-slot.ensures.fits c.in_ok-push.ensures.ok;

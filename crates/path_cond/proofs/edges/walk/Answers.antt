@@ -2,8 +2,9 @@ use Rattle.std.proofs.lemmas.List.{drop_more}
 use Rattle.flow_laws.specs.Graphs.{graph, edges}
 use Rattle.term_steps.proofs.Growing.{below_grown}
 use Rattle.path_cond.specs.Memories.{memory_of}
-use Rattle.path_cond.proofs.EdgeRuns.{edge_at, walked_on}
+use Rattle.path_cond.proofs.EdgeRuns.{walked_on}
 use Rattle.path_cond.proofs.edges.walk.Goals as goal
+use Rattle.flow_laws.proofs.NamedEdges.{edge_at}
 
 pub pass-requires-clause-edge : goal.pass-requires-clause-edge
 pass-requires-clause-edge c = edge_at (edges (graph c.args.plan.now.program)) c.args.list.now c.loop-edge.edge-index c.requires.contiguous c.loop-edge-test.true

@@ -1,5 +1,5 @@
 use Rattle.std.proofs.Common.{◌≡◌, ◌++◌, map, drop}
-use Rattle.c_tree.specs.Runs.{outer_types}
+use Rattle.c_tree.specs.Meaning.Runs.{outer_types}
 use Rattle.cond_laws.specs.TermPaths.{is_signed}
 use Rattle.path_cond.proofs.inputs.declare_globals.Given as goal
 

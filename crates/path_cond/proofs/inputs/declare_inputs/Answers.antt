@@ -1,6 +1,6 @@
 use Rattle.std.proofs.Common.{ap, ◌∙◌}
 use Rattle.std.proofs.lemmas.Result.{on_ok_weaker}
-use Rattle.c_tree.specs.Programs.{Program}
+use Rattle.c_tree.specs.Keeping.Programs.{Program}
 use Rattle.path_cond.proofs.DeclaredInputs.{read_func, params_taken, params_first, globals_then, all_declared}
 use Rattle.path_cond.proofs.inputs.declare_inputs.Goals as goal
 

@@ -1,9 +1,9 @@
 use Rattle.std.proofs.Common.{◌≡◌, refl, sym, subst, ◌∙◌}
-use Rattle.c_tree.specs.Runs.{fits}
+use Rattle.c_tree.specs.Meaning.Runs.{fits}
 use Rattle.bv_term.specs.Stores.{fits_store}
 use Rattle.cond_laws.specs.declared.condition.PathCond.{PathCond}
 use Rattle.cond_laws.specs.Conditions.{Cond, FitTerms}
-use Rattle.cond_laws.proofs.Whole as whole
+use Rattle.cond_laws.proofs.Paths.Whole as whole
 use Rattle.path_cond.proofs.ListRuns.{terms_of}
 use Rattle.path_cond.proofs.path.condition.Goals as goal
 

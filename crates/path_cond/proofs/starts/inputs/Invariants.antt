@@ -6,7 +6,7 @@ use Rattle.path_cond.proofs.starts.inputs.Given as goal
 
 abbrev pub invariant-loop-k : goal.invariant-loop-k
 invariant-loop-k l = record {
-  rest : Rest (spec.inputs l.fn.first l.fn.count) (spec.inputs (l.fn.first + l.k) (l.fn.count - l.k)) (λ more. l.numbers ++ more) l.fn.terms l.terms;
+  rest : Rest (spec.input_terms l.fn.first l.fn.count) (spec.input_terms (l.fn.first + l.k) (l.fn.count - l.k)) (λ more. l.numbers ++ more) l.fn.terms l.terms;
   there : AllBelow (length l.terms.ops) l.numbers;
   many : length l.numbers ≡ l.k;
 }

@@ -1,8 +1,8 @@
 use Rattle.std.proofs.Common.{length, List, None, refl, sym, subst, ap, ◌∙◌}
-use Rattle.c_tree.specs.Programs.{Program}
+use Rattle.c_tree.specs.Keeping.Programs.{Program}
 use Rattle.cond_laws.specs.declared.store.TermSlot.{TermSlot}
 use Rattle.cond_laws.specs.Sizes.{AreSmallLocals}
-use Rattle.cond_laws.proofs.PlainGraphs.{entry_is_small}
+use Rattle.cond_laws.proofs.Paths.PlainGraphs.{entry_is_small}
 use Rattle.path_cond.proofs.DeclaredInputs.{read_func, entry_params, params_declared, globals_declared, few_inputs}
 use Rattle.path_cond.proofs.StartRuns.{entry_locals, started}
 use Rattle.path_cond.proofs.starts.start.Goals as goal

@@ -1,8 +1,8 @@
 use Rattle.std.proofs.Common.{arith}
 use Rattle.flow_laws.specs.Graphs.{graph, edges, loops}
 use Rattle.path_walk.proofs.Counting.{along_next, along_all}
-use Rattle.path_walk.proofs.Standing.{edge_at}
 use Rattle.path_walk.proofs.counters.counters.Goals as goal
+use Rattle.flow_laws.proofs.NamedEdges.{edge_at}
 
 pub turn-requires-clause-edge : goal.turn-requires-clause-edge
 turn-requires-clause-edge c =

@@ -1,6 +1,6 @@
 use Rattle.flow_laws.specs.Graphs.{graph, edges}
-use Rattle.path_walk.proofs.Standing.{edge_at}
 use Rattle.path_walk.proofs.walk.end_of.Goals as goal
+use Rattle.flow_laws.proofs.NamedEdges.{edge_at}
 
 pub edge-requires : goal.edge-requires
 edge-requires c = edge_at (edges (graph c.args.plan.now.program)) c.args.list.now c.loop-e.e-index c.requires c.loop-e-test.true

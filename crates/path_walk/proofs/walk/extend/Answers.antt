@@ -1,7 +1,7 @@
 use Rattle.std.proofs.Common.{◌≤◌, length, arith}
 use Rattle.path_walk.specs.declared.next.Next.TheVariants.{Long, Whole, Dead}
 use Rattle.path_walk.specs.declared.step.Step.TheVariants.{Stuck, On, Parts}
-use Rattle.path_walk.specs.Steps.{forked}
+use Rattle.path_walk.specs.Steps.{fork_of}
 use Rattle.path_walk.proofs.Covers.{cover}
 use Rattle.path_walk.proofs.Standing.{stands_begin, stands_on, node_of, chosen_at, long, whole, dead, parted, if_forked, if_covers}
 use Rattle.path_walk.proofs.walk.extend.Goals as goal
@@ -32,13 +32,13 @@ pub returns-in-Parts-clause-answers : goal.returns-in-Parts-clause-answers
 returns-in-Parts-clause-answers c =
     let short : length c.going.list ≤ 16384 = let test = c.going-test.true in let len = c.len.ensures in omega (arith, test, len) in
     let answers = parted c.args.plan.now.program c.args.prefix.now c.args.room.now c.going.list c.going.free c.going.left c.going.at c.in-Parts.yes c.in-Parts.no c.going.invariant short (chosen_at c.args.plan.now.program c.as_slice.result.now c.going.free c.as_slice-in-going.result.now c.going.left c.going.at c.choose.result (Parts c.in-Parts.yes c.in-Parts.no) c.as_slice.ensures c.as_slice-in-going.ensures c.in-Parts.is c.choose.ensures) in
-    if_forked c.args.plan.now.program c.args.prefix.now c.args.room.now (forked c.going.list c.in-Parts.yes c.in-Parts.no) c.fork.result answers c.fork.ensures
+    if_forked c.args.plan.now.program c.args.prefix.now c.args.room.now (fork_of c.going.list c.in-Parts.yes c.in-Parts.no) c.fork.result answers c.fork.ensures
 
 pub returns-in-Parts-clause-covers : goal.returns-in-Parts-clause-covers
 returns-in-Parts-clause-covers c =
     let short : length c.going.list ≤ 16384 = let test = c.going-test.true in let len = c.len.ensures in omega (arith, test, len) in
     let answers = parted c.args.plan.now.program c.args.prefix.now c.args.room.now c.going.list c.going.free c.going.left c.going.at c.in-Parts.yes c.in-Parts.no c.going.invariant short (chosen_at c.args.plan.now.program c.as_slice.result.now c.going.free c.as_slice-in-going.result.now c.going.left c.going.at c.choose.result (Parts c.in-Parts.yes c.in-Parts.no) c.as_slice.ensures c.as_slice-in-going.ensures c.in-Parts.is c.choose.ensures) in
-    if_covers c.args.plan.now.program c.args.prefix.now c.args.room.now (forked c.going.list c.in-Parts.yes c.in-Parts.no) c.fork.result answers c.fork.ensures
+    if_covers c.args.plan.now.program c.args.prefix.now c.args.room.now (fork_of c.going.list c.in-Parts.yes c.in-Parts.no) c.fork.result answers c.fork.ensures
 
 pub going-preserved : goal.going-preserved
 going-preserved c =

@@ -1,5 +1,5 @@
 use Rattle.std.proofs.Common.{◌<◌, ◌+◌, ◌∙◌, [], length, sym, ap, arith, drop}
-use Rattle.c_tree.specs.Statements.{held}
+use Rattle.c_tree.specs.Meaning.Statements.{held_stmts}
 use Rattle.flow_laws.specs.BlockLists.{blocks_of_stmt, blocks_of_list}
 use Rattle.path_weight.specs.Sought.{sought, block_part}
 use Rattle.path_weight.proofs.Seeking.{err_is, on_ok, on_err, for_parts, simple_step, plain_step, no_run}
@@ -11,7 +11,7 @@ seek-returns-in_err-left-in-For-3 t c =
     let w = block_part s.locals.now s.globals.now s.func in
     let f = c.in-For in
     let parts = for_parts w c.args.stmt.now f.field-0 f.first f.step f.condition f.body c.args.left c.in_ok-left-in-For.left c.in_ok-left-in-For-2.left f.is (sym c.seek_part.ensures ∙ c.in_ok-left-in-For.was) (sym c.seek_condition-in-For.ensures ∙ c.in_ok-left-in-For-2.was) in
-    err_is c.from_residual-in_err-left-in-For-3.result c.in_err-left-in-For-3.field-0.0 c.from_residual-in_err-left-in-For-3.ensures.1 ∙ sym (parts ∙ on_err w (blocks_of_list [] (held f.step)) (blocks_of_list [] f.body) c.in_ok-left-in-For-2.left c.in_err-left-in-For-3.field-0.0 (sym c.seek_part-in-For.ensures ∙ c.in_err-left-in-For-3.was))
+    err_is c.from_residual-in_err-left-in-For-3.result c.in_err-left-in-For-3.field-0.0 c.from_residual-in_err-left-in-For-3.ensures.1 ∙ sym (parts ∙ on_err w (blocks_of_list [] (held_stmts f.step)) (blocks_of_list [] f.body) c.in_ok-left-in-For-2.left c.in_err-left-in-For-3.field-0.0 (sym c.seek_part-in-For.ensures ∙ c.in_err-left-in-For-3.was))
 
 pub seek-returns-in_ok-left-in-For-3 : goal.seek-returns-in_ok-left-in-For-3
 seek-returns-in_ok-left-in-For-3 t c =
@@ -19,7 +19,7 @@ seek-returns-in_ok-left-in-For-3 t c =
     let w = block_part s.locals.now s.globals.now s.func in
     let f = c.in-For in
     let parts = for_parts w c.args.stmt.now f.field-0 f.first f.step f.condition f.body c.args.left c.in_ok-left-in-For.left c.in_ok-left-in-For-2.left f.is (sym c.seek_part.ensures ∙ c.in_ok-left-in-For.was) (sym c.seek_condition-in-For.ensures ∙ c.in_ok-left-in-For-2.was) in
-    c.seek_list-in-For.ensures ∙ ap (λ xs. sought w (blocks_of_list [] xs) c.in_ok-left-in-For-3.left) c.as_slice-in-For.ensures ∙ sym (parts ∙ on_ok w (blocks_of_list [] (held f.step)) (blocks_of_list [] f.body) c.in_ok-left-in-For-2.left c.in_ok-left-in-For-3.left (sym c.seek_part-in-For.ensures ∙ c.in_ok-left-in-For-3.was))
+    c.seek_list-in-For.ensures ∙ ap (λ xs. sought w (blocks_of_list [] xs) c.in_ok-left-in-For-3.left) c.as_slice-in-For.ensures ∙ sym (parts ∙ on_ok w (blocks_of_list [] (held_stmts f.step)) (blocks_of_list [] f.body) c.in_ok-left-in-For-2.left c.in_ok-left-in-For-3.left (sym c.seek_part-in-For.ensures ∙ c.in_ok-left-in-For-3.was))
 
 pub seek_list-loop-at-preserved-then-is_simple : goal.seek_list-loop-at-preserved-then-is_simple
 seek_list-loop-at-preserved-then-is_simple t c =

@@ -1,6 +1,6 @@
 use Rattle.std.proofs.Common.{◌≡◌, ◌∙◌, Some, rules, sym, ap}
 use Rattle.std.specs.Prelude.{slice_get}
-use Rattle.c_tree.specs.Programs.{Program}
+use Rattle.c_tree.specs.Keeping.Programs.{Program}
 use Rattle.path_weight.proofs.Copies.{copy_found_in, copy_passed_in}
 use Rattle.path_weight.proofs.blocks.block_weight.Goals as goal
 

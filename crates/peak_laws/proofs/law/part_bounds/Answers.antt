@@ -1,6 +1,6 @@
 -- The laws of `Greatest`.
-use Rattle.peak_laws.proofs.DualFits.{dual_fits}
-use Rattle.peak_laws.proofs.Greatest.{fits, bounded}
+use Rattle.peak_laws.proofs.Duals.DualFits.{dual_fits}
+use Rattle.peak_laws.proofs.Optima.Greatest.{fits, bounded}
 use Rattle.peak_laws.proofs.law.part_bounds.Goals as goal
 
 pub returns : goal.returns

@@ -1,6 +1,6 @@
 -- The numbers of `Worked`.
 use Rattle.peak_laws.proofs.law.worked_peaks.Goals as goal
-use Rattle.peak_laws.proofs.Worked.{worked-two_choices, worked-two_choices_counts, worked-while, worked-while_counts, worked-do, worked-triangular, worked-nested, worked-once}
+use Rattle.peak_laws.proofs.Optima.Worked.{worked-two_choices, worked-two_choices_counts, worked-while, worked-while_counts, worked-do, worked-triangular, worked-nested, worked-once}
 
 pub returns-clause-two_choices : goal.returns-clause-two_choices
 returns-clause-two_choices c = worked-two_choices

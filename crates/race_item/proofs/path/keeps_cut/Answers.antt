@@ -1,6 +1,6 @@
 use Rattle.std.proofs.Common.{◌≤◌, ◌<◌, length, sym, ap, arith}
 use Rattle.flow_laws.specs.Graphs.{graph, edges}
-use Rattle.flow_laws.specs.Paths.{count}
+use Rattle.flow_laws.specs.Paths.{edge_count}
 use Rattle.race_item.specs.Trials.{is_within}
 use Rattle.race_item.proofs.Boxes.{count_there, no_count_at}
 use Rattle.race_item.proofs.Trials.{within_low, below_low}
@@ -14,9 +14,9 @@ returns-then-from-edges c =
 pub returns-then-cut-times : goal.returns-then-cut-times
 returns-then-cut-times c =
     let there : c.args.cut.edge < length (edges (graph c.args.plan.now.program)) = omega (arith, c.if-from-edges.false, c.edges.ensures.count, c.from.ensures) in
-    within_low c.args.cut c.count-times.result (count c.args.list.now c.args.cut.edge) c.count-times.ensures (count_there c.args.plan.now.program c.args.list.now c.args.cut.edge there) c.if-cut-times.true
+    within_low c.args.cut c.count-times.result (edge_count c.args.list.now c.args.cut.edge) c.count-times.ensures (count_there c.args.plan.now.program c.args.list.now c.args.cut.edge there) c.if-cut-times.true
 
 pub returns-else-cut-times : goal.returns-else-cut-times
 returns-else-cut-times c =
     let there : c.args.cut.edge < length (edges (graph c.args.plan.now.program)) = omega (arith, c.if-from-edges.false, c.edges.ensures.count, c.from.ensures) in
-    below_low c.args.cut c.count-times.result (count c.args.list.now c.args.cut.edge) c.count-times.ensures (count_there c.args.plan.now.program c.args.list.now c.args.cut.edge there) c.if-cut-times.false
+    below_low c.args.cut c.count-times.result (edge_count c.args.list.now c.args.cut.edge) c.count-times.ensures (count_there c.args.plan.now.program c.args.list.now c.args.cut.edge there) c.if-cut-times.false

@@ -7,7 +7,7 @@ use Rattle.flow_laws.specs.Paths.{IsPath}
 use Rattle.flow_laws.specs.Claims.{Begins}
 use Rattle.flow_graph.specs.Plans.{Planned}
 use Rattle.ipet_rows.specs.Sound.{PlanRows}
-use Rattle.race_item.specs.Items.{cost_of}
+use Rattle.race_item.specs.Items.{list_cost}
 use Rattle.race_item.proofs.Trials.{cuts_at}
 use Rattle.race_item.proofs.path.may_settle.Goals as goal
 
@@ -24,7 +24,7 @@ returns-then-price-bound c =
     let path = c.args.path.now in
     let is_plan : c.plan-plan.result.now ≡ item.rows.plan = c.plan-plan.ensures ∙ ap (λ (s : PlanRows). s.plan) c.rows.ensures in
     let cuts = cuts_at item.rows.plan c.plan-plan.result.now item.region path c.cuts.result.now c.keeps_cuts.result is_plan c.cuts.ensures c.keeps_cuts.ensures in
-    let cost : c.price.result ≡ cost_of item.rows.plan path = c.price.ensures ∙ ap (λ (plan : Planned). cost_of plan path) is_plan in (
+    let cost : c.price.result ≡ list_cost item.rows.plan path = c.price.ensures ∙ ap (λ (plan : Planned). list_cost plan path) is_plan in (
       λ h. record {
         is_path = subst (λ (plan : Planned). IsPath (edges (graph plan.program)) path) is_plan (c.if-not-is_path.ensures.0 refl);
         begins = subst (λ q. Begins q path) c.prefix.ensures (c.if-not-begins.ensures.0 refl);
@@ -40,7 +40,7 @@ returns c =
     let path = c.args.path.now in
     let is_plan : c.plan-plan.result.now ≡ item.rows.plan = c.plan-plan.ensures ∙ ap (λ (s : PlanRows). s.plan) c.rows.ensures in
     let cuts = cuts_at item.rows.plan c.plan-plan.result.now item.region path c.cuts.result.now c.keeps_cuts.result is_plan c.cuts.ensures c.keeps_cuts.ensures in
-    let cost : c.price.result ≡ cost_of item.rows.plan path = c.price.ensures ∙ ap (λ (plan : Planned). cost_of plan path) is_plan in
+    let cost : c.price.result ≡ list_cost item.rows.plan path = c.price.ensures ∙ ap (λ (plan : Planned). list_cost plan path) is_plan in
     let whole = slice_eq-Decides Decides-eqb c.prefix-2.result.now path c.eq.result c.eq.ensures in (
       λ h. record {
         is_path = subst (λ (plan : Planned). IsPath (edges (graph plan.program)) path) is_plan (c.if-not-is_path.ensures.0 refl);

@@ -1,7 +1,7 @@
 use Rattle.std.proofs.Common.{◌≡◌, ap, ◌∙◌, subst}
 use Rattle.flow_graph.specs.Plans.{Planned}
 use Rattle.ipet_rows.specs.Sound.{PlanRows}
-use Rattle.race_item.specs.Trials.{AreUpperLimits, taken}
+use Rattle.race_item.specs.Trials.{AreUpperLimits, room_after}
 use Rattle.race_item.proofs.Rooms.{room_is}
 use Rattle.race_item.proofs.room.room_behind.Goals as goal
 

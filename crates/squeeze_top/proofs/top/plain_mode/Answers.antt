@@ -4,7 +4,7 @@ use Rattle.std.specs.Prelude.{◌≡◌, ◌⊎◌}
 use Rattle.wc_outside.specs.Causes.{Rose}
 use Rattle.wc_outside.specs.Growth.{Grew}
 use Rattle.front_end.specs.declared.status.Status.TheVariants as status
-use Rattle.front_end.specs.Lines.{line_of}
+use Rattle.front_end.specs.Lines.{refusal_line}
 use Rattle.front_end.specs.Statuses.{status_of}
 use Rattle.squeeze_top.specs.Jobs.{IsHalt}
 use Rattle.squeeze_top.proofs.Agreeing.{one_answer, answered_whole, answered_stands, served_stands, one_status}
@@ -92,7 +92,7 @@ returns-in-Err-Refused-clause-refused g c =
     λ refusal some are unread unwritten.
     refused c.refuse.result (status_of c.in-Err-Refused.refusal) (status_of refusal)
     (Grew (g.K.Sink.written c.args.out.now) (g.K.Sink.written c.refuse.new.out)
-    (line_of c.in-Err-Refused.refusal))
+    (refusal_line c.in-Err-Refused.refusal))
     (λ e. unwritten ((c.refuse.ensures.part e).1)) c.refuse.ensures.told
     (one_status c.args.job.now (g.S.Shelf.contents c.args.shelf.now) c.in-Err-Refused.refusal refusal some
     (subst (λ h. IsHalt h c.args.job.now (g.S.Shelf.contents c.args.shelf.now)) c.in-Err-Refused.field-0-is

@@ -6,7 +6,7 @@ use Rattle.term_effects.proofs.arrays.zeros.Given as goal
 
 abbrev pub invariant-loop-index : goal.invariant-loop-index
 invariant-loop-index l = record {
-  rest : Rest (spec.zeros l.fn.count) (spec.zeros (l.count - l._index)) (λ ns. l.list ++ ns) l.fn.terms l.terms;
+  rest : Rest (spec.zero_terms l.fn.count) (spec.zero_terms (l.count - l._index)) (λ ns. l.list ++ ns) l.fn.terms l.terms;
   there : AllBelow (length l.terms.ops) l.list;
   many : length l.list ≡ l._index;
 }

@@ -1,4 +1,4 @@
-use Rattle.cond_laws.proofs.ExpressionFits.{unset_fits}
+use Rattle.cond_laws.proofs.Fitting.ExpressionFits.{unset_fits}
 use Rattle.term_effects.proofs.EffectRuns.{store_is, declared, initialised}
 use Rattle.term_effects.proofs.statements.declare.Goals as goal
 

@@ -1,5 +1,5 @@
 use Rattle.std.proofs.Common.{arith}
-use Rattle.cond_laws.proofs.ExpressionFits.{unset_fits}
+use Rattle.cond_laws.proofs.Fitting.ExpressionFits.{unset_fits}
 use Rattle.term_effects.proofs.EffectRuns.{store_is, array_declared}
 use Rattle.term_effects.proofs.statements.declare_array.Goals as goal
 

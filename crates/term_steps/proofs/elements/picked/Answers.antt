@@ -1,8 +1,9 @@
 use Rattle.std.proofs.Common.{◌<◌, ◌+◌, ℕ, List, length, drop, subst, arith}
 use Rattle.cond_laws.specs.TermStores as spec
 use Rattle.term_steps.proofs.Runs.{Rest, rest_goes}
-use Rattle.term_steps.proofs.Growing.{below_at, split}
+use Rattle.term_steps.proofs.Growing.{below_at}
 use Rattle.term_steps.proofs.elements.picked.Goals as goal
+use Rattle.plain_laws.proofs.Lists.{drop-number}
 
 pub one_pick-requires-clause-at_in : goal.one_pick-requires-clause-at_in
 one_pick-requires-clause-at_in c = omega (arith, c.loop-index.invariant.rest.grows, c.requires.at_in)
@@ -20,8 +21,8 @@ loop-index-preserved c =
     let ns = c.args.elements.now in
     let e = c.args.at in
     let inside : i < length ns = omega arith in
-    let begun = subst (λ (ms : List ℕ). Rest (spec.picked e 0 c.args.other ns) (spec.picked e i l.chosen ms) (λ x. x) c.args.terms.now l.terms) (split ns i inside) l.invariant.rest in
+    let begun = subst (λ (ms : List ℕ). Rest (spec.element_choice e 0 c.args.other ns) (spec.element_choice e i l.chosen ms) (λ x. x) c.args.terms.now l.terms) (drop-number ns i inside) l.invariant.rest in
     record {
-      rest = rest_goes (λ y. spec.picked e (i + 1) y (drop (i + 1) ns)) begun c.in_ok-chosen.ensures;
+      rest = rest_goes (λ y. spec.element_choice e (i + 1) y (drop (i + 1) ns)) begun c.in_ok-chosen.ensures;
       there = c.in_ok-chosen.ensures.fits;
     }

@@ -7,7 +7,7 @@ use Rattle.term_steps.proofs.expressions.all_exprs.Given as goal
 -- the values so far and those of the rest are all
 abbrev pub invariant-loop-e : goal.invariant-loop-e
 invariant-loop-e l = record {
-  rest : Rest (spec.all_exprs l.fn.exprs l.store) (spec.all_exprs (drop l.e-index l.exprs) l.store) (λ more. spec.listed (l.values ++ more.terms) (l.conditions ++ more.conditions)) l.fn.terms l.terms;
+  rest : Rest (spec.all_exprs l.fn.exprs l.store) (spec.all_exprs (drop l.e-index l.exprs) l.store) (λ more. spec.listed_terms (l.values ++ more.terms) (l.conditions ++ more.conditions)) l.fn.terms l.terms;
   values_in : AllBelow (length l.terms.ops) l.values;
   conditions_in : AllBelow (length l.terms.ops) l.conditions;
 }

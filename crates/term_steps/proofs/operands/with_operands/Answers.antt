@@ -1,5 +1,5 @@
 use Rattle.std.proofs.Common.{◌++◌, length, ap, ◌∙◌, arith}
-use Rattle.cond_laws.proofs.OperandFits.{below_append}
+use Rattle.cond_laws.proofs.Fitting.OperandFits.{below_append}
 use Rattle.term_steps.proofs.OperandRuns.{also_given}
 use Rattle.term_steps.proofs.operands.with_operands.Goals as goal
 

@@ -1,5 +1,5 @@
 use Rattle.std.proofs.Common.{subst}
-use Rattle.c_tree.specs.Checked.{IsProgram}
+use Rattle.c_tree.specs.Checking.Checked.{IsProgram}
 use Rattle.typed_laws.proofs.programs.program_is_typed.Goals as goal
 
 pub returns : goal.returns

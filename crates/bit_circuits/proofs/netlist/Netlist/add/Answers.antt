@@ -1,5 +1,5 @@
 use Rattle.std.proofs.Common.{rules, refl}
-use Rattle.bit_circuits.proofs.Running.{gate-adds}
+use Rattle.bit_circuits.proofs.Construction.Running.{gate-adds}
 use Rattle.bit_circuits.proofs.netlist.Netlist.add.Goals as goal
 
 pub returns : goal.returns

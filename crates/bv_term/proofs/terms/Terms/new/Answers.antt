@@ -1,7 +1,7 @@
-use Rattle.std.proofs.Common.{◌≡◌, Bool, List, [], sym, subst, arith}
+use Rattle.std.proofs.Common.{Bool, List, [], sym, subst, arith}
 use Rattle.std.specs.List.{IsDistinct}
 use Rattle.bv_term.specs.declared.op.Op.{Op}
-use Rattle.bv_term.specs.Stores.{Terms, IsStore}
+use Rattle.bv_term.specs.Stores.{IsStore}
 use Rattle.bv_term.proofs.terms.Terms.new.Goals as goal
 
 without_terms : IsStore (record { inputs = []; ops = [] })

@@ -1,5 +1,5 @@
 use Rattle.std.proofs.Common.{sym, ap, ◌∙◌, option_map}
-use Rattle.c_tree.specs.Scopes as scope
+use Rattle.c_tree.specs.Checking.Scopes as scope
 use Rattle.c_names.specs.Tables.{known_as}
 use Rattle.c_names.proofs.NameTables.{latest-known}
 use Rattle.c_names.proofs.names.Names.latest.Goals as goal

@@ -2,7 +2,7 @@ use Rattle.std.proofs.Common.{◌≡◌, ◌-◌, ◌+◌, ◌*◌}
 use Rattle.parse_laws.specs.Parser.{sees}
 use Rattle.parse_laws.specs.ReadStmt as spec
 use Rattle.c_tree.specs.declared.symbol.Symbol.TheVariants as s
-use Rattle.c_tree.specs.SpelledStatements.{Item}
+use Rattle.c_tree.specs.Grammar.SpelledStatements.{Item}
 use Rattle.c_parse.proofs.reader.Reader.+code.Given as goal
 
 abbrev pub decreases-plain : goal.decreases-plain
@@ -36,4 +36,4 @@ abbrev pub decreases-looped : goal.decreases-looped
 decreases-looped l = 12 * l.room + 7
 
 abbrev pub invariant-block-loop-turn : goal.invariant-block-loop-turn
-invariant-block-loop-turn l = spec.until_on (sees s.RightBrace) (spec.statement l.room Item) spec.closed (l._turn-end - l._turn) l.list l.self ≡ spec.block (spec.statement l.room Item) l.fn.self
+invariant-block-loop-turn l = spec.until_on (sees s.RightBrace) (spec.statement l.room Item) spec.compound_end (l._turn-end - l._turn) l.list l.self ≡ spec.compound_phrase (spec.statement l.room Item) l.fn.self

@@ -43,7 +43,7 @@ decreases-operand l = 8 * l.room + 4
 
 abbrev pub invariant-climb-loop-turn : goal.invariant-climb-loop-turn
 invariant-climb-loop-turn l = record {
-  same : spec.climb (spec.expr (l.room - 1)) l.room (l.room - l._turn) l.least l.left.expr l.self
-      ≡ spec.climb (spec.expr (l.room - 1)) l.room l.room l.least l.fn.first.expr l.fn.self;
+  same : spec.climb (spec.expr_phrase (l.room - 1)) l.room (l.room - l._turn) l.least l.left.expr l.self
+      ≡ spec.climb (spec.expr_phrase (l.room - 1)) l.room l.room l.least l.fn.first.expr l.fn.self;
   low : l.left.height ≤ l.room;
 }

@@ -1,39 +1,39 @@
 use Rattle.std.proofs.Common.{◌++◌, ◌∷◌, [], ◌+◌, drop, sym, ap, ◌∙◌, append_assoc}
 use Rattle.c_tree.specs.declared.tree.Stmt.TheVariants as stmt
-use Rattle.c_tree.specs.Naming.{past, list_locals, behind, stmt_of, stmts_of, list_behind}
-use Rattle.c_tree.specs.Uses.{stmt_uses, stmts_uses}
+use Rattle.c_tree.specs.Checking.Naming.{scope_past_list, list_locals, scope_behind, stmt_of, stmts_of, list_behind}
+use Rattle.c_tree.specs.Checking.Uses.{stmt_uses, stmts_uses}
 use Rattle.c_faults.specs.Verdicts.{after_uses}
-use Rattle.c_resolve.specs.Walks.{scope_of, ended}
-use Rattle.c_faults.proofs.Heard.{after_uses-none, after_uses-append}
-use Rattle.c_resolve.proofs.Steps.{next_item, no_items}
+use Rattle.c_resolve.specs.Walks.{scope_of, scope_at_end}
+use Rattle.c_faults.proofs.AfterUses.{after_uses-none, after_uses-append}
 use Rattle.c_resolve.proofs.Growth.{ended_list}
 use Rattle.c_resolve.proofs.ForLoops.{Inside, for_tree, for_scope, for_first}
 use Rattle.c_resolve.proofs.checker.Checker.+stmts.Goals as goal
+use Rattle.plain_laws.proofs.Lists.{drop-read, drop-past}
 
 pub inner-returns-clause-scope : goal.inner-returns-clause-scope
 inner-returns-clause-scope t c =
     let o = c.in_ok-outer.outer in
     let s = scope_of c.args.self.now in
     c.in_ok-close.ensures.scope
-    ∙ ap (λ u. ended u o) (c.in_ok-stmts.ensures.scope ∙ ap (λ u. list_behind u c.as_slice.result.now) c.in_ok-outer.ensures.scope)
+    ∙ ap (λ u. scope_at_end u o) (c.in_ok-stmts.ensures.scope ∙ ap (λ u. list_behind u c.as_slice.result.now) c.in_ok-outer.ensures.scope)
     ∙ ended_list s c.args.looped c.as_slice.result.now o c.in_ok-outer.ensures.outer
-    ∙ ap (λ xs. past s (list_locals xs)) c.as_slice.ensures
+    ∙ ap (λ xs. scope_past_list s (list_locals xs)) c.as_slice.ensures
 
 pub stmts-loop-stmt-preserved : goal.stmts-loop-stmt-preserved
 stmts-loop-stmt-preserved t c =
     let s = scope_of c.loop-stmt.self in
     let x = c.stmt-item.result in
-    let at = next_item c.args.list.now c.loop-stmt.stmt-index x c.loop-stmt-test.true c.stmt-item.is in
+    let at = drop-read c.args.list.now c.loop-stmt.stmt-index x c.loop-stmt-test.true c.stmt-item.is in
     let rest = drop (c.loop-stmt.stmt-index + 1) c.args.list.now in
     let e = c.in_ok-stmt.ensures in
     record {
       tree = (λ i. c.in_ok-push.ensures.ok i ++ stmts_of (e.scope i) rest)
-          ∙ ap (λ y. (c.loop-stmt.stmts ++ y ∷ []) ++ stmts_of (behind s x) rest) e.tree
-          ∙ append_assoc c.loop-stmt.stmts (stmt_of s x ∷ []) (stmts_of (behind s x) rest)
+          ∙ ap (λ y. (c.loop-stmt.stmts ++ y ∷ []) ++ stmts_of (scope_behind s x) rest) e.tree
+          ∙ append_assoc c.loop-stmt.stmts (stmt_of s x ∷ []) (stmts_of (scope_behind s x) rest)
           ∙ ap (λ xs. c.loop-stmt.stmts ++ stmts_of s xs) (sym at) ∙ c.loop-stmt.invariant.tree;
       scope = ap (λ u. list_behind u rest) e.scope ∙ ap (list_behind s) (sym at) ∙ c.loop-stmt.invariant.scope;
       first = (λ i. after_uses (e.first i) (stmts_uses (e.scope i) rest))
-          ∙ sym (after_uses-append c.loop-stmt.self.verdict (stmt_uses s x) (stmts_uses (behind s x) rest))
+          ∙ sym (after_uses-append c.loop-stmt.self.verdict (stmt_uses s x) (stmts_uses (scope_behind s x) rest))
           ∙ ap (λ xs. after_uses c.loop-stmt.self.verdict (stmts_uses s xs)) (sym at) ∙ c.loop-stmt.invariant.first;
     }
 
@@ -41,7 +41,7 @@ pub stmts-returns-clause-first : goal.stmts-returns-clause-first
 stmts-returns-clause-first t c =
     let s = scope_of c.loop-stmt.self in
     sym (after_uses-none c.loop-stmt.self.verdict)
-    ∙ ap (λ xs. after_uses c.loop-stmt.self.verdict (stmts_uses s xs)) (sym (no_items c.args.list.now c.loop-stmt.stmt-index c.loop-stmt-test.false))
+    ∙ ap (λ xs. after_uses c.loop-stmt.self.verdict (stmts_uses s xs)) (sym (drop-past c.args.list.now c.loop-stmt.stmt-index c.loop-stmt-test.false))
     ∙ c.loop-stmt.invariant.first
 
 pub stmt-returns-in_ok-close-in-For-clause-tree : goal.stmt-returns-in_ok-close-in-For-clause-tree
@@ -65,7 +65,7 @@ stmt-returns-in_ok-close-in-For-clause-scope t c =
       second = c.in_ok-step-in-For.ensures.scope;
     } in
     for_scope s _ _ _ (scope_of c.inner-in-For.new.self) _ c.in-For.at c.in-For.bound c.in-For.initial c.in-For.e c.in-For.step c.in-For.body c.in_ok-outer-in-For.outer inside c.in_ok-outer-in-For.ensures.outer c.in_ok-body-in-For.ensures.scope c.in_ok-close-in-For.ensures.scope
-    ∙ ap (behind s) (sym c.in-For.is)
+    ∙ ap (scope_behind s) (sym c.in-For.is)
 
 pub stmt-returns-in_ok-close-in-For-clause-first : goal.stmt-returns-in_ok-close-in-For-clause-first
 stmt-returns-in_ok-close-in-For-clause-first t c =

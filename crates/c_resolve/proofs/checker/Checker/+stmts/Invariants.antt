@@ -1,6 +1,6 @@
 use Rattle.std.proofs.Common.{◌≡◌, ◌++◌, drop}
-use Rattle.c_tree.specs.Naming.{stmts_of, list_behind}
-use Rattle.c_tree.specs.Uses.{stmts_uses}
+use Rattle.c_tree.specs.Checking.Naming.{stmts_of, list_behind}
+use Rattle.c_tree.specs.Checking.Uses.{stmts_uses}
 use Rattle.c_faults.specs.Verdicts.{after_uses}
 use Rattle.c_resolve.specs.Walks.{scope_of}
 use Rattle.c_resolve.proofs.checker.Checker.+stmts.Given as goal

@@ -1,6 +1,6 @@
 use Rattle.std.proofs.Common.{◌≡◌, drop}
-use Rattle.c_tree.specs.Naming.{with_params}
-use Rattle.c_tree.specs.Uses.{params_uses}
+use Rattle.c_tree.specs.Checking.Naming.{with_params}
+use Rattle.c_tree.specs.Checking.Uses.{params_uses}
 use Rattle.c_faults.specs.Verdicts.{after_uses}
 use Rattle.c_resolve.specs.Walks.{scope_of}
 use Rattle.c_resolve.proofs.checker.Checker.params.Given as goal

@@ -1,6 +1,6 @@
 use Rattle.std.proofs.Common.{◌≡◌, ◌++◌, drop}
-use Rattle.c_tree.specs.Naming.{funcs_of, globals_of}
-use Rattle.c_tree.specs.Uses.{tops_uses}
+use Rattle.c_tree.specs.Checking.Naming.{funcs_of, globals_of}
+use Rattle.c_tree.specs.Checking.Uses.{tops_uses}
 use Rattle.c_faults.specs.Verdicts.{after_uses}
 use Rattle.c_resolve.specs.Files.{file_of}
 use Rattle.c_resolve.proofs.unit.UnitChecker.tops.Given as goal

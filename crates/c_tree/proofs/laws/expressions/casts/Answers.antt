@@ -1,5 +1,5 @@
 use Rattle.c_tree.proofs.laws.expressions.casts.Goals as goal
-use Rattle.c_tree.proofs.WorkedExpressions.{casts-to_int, casts-to_unsigned, casts-of_undefined}
+use Rattle.c_tree.proofs.Worked.WorkedExpressions.{casts-to_int, casts-to_unsigned, casts-of_undefined}
 
 pub returns-clause-to_int : goal.returns-clause-to_int
 returns-clause-to_int c = casts-to_int

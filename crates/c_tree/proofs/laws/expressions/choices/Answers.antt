@@ -1,5 +1,5 @@
 use Rattle.c_tree.proofs.laws.expressions.choices.Goals as goal
-use Rattle.c_tree.proofs.WorkedExpressions.{choices-converted, choices-second, choices-first, choices-undefined_condition, choices-undefined_choice}
+use Rattle.c_tree.proofs.Worked.WorkedExpressions.{choices-converted, choices-second, choices-first, choices-undefined_condition, choices-undefined_choice}
 
 pub returns-clause-converted : goal.returns-clause-converted
 returns-clause-converted c = choices-converted

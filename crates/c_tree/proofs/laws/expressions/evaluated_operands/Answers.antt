@@ -1,5 +1,5 @@
 use Rattle.c_tree.proofs.laws.expressions.evaluated_operands.Goals as goal
-use Rattle.c_tree.proofs.WorkedExpressions.{evaluated_operands-and, evaluated_operands-or, evaluated_operands-and_both, evaluated_operands-product}
+use Rattle.c_tree.proofs.Worked.WorkedExpressions.{evaluated_operands-and, evaluated_operands-or, evaluated_operands-and_both, evaluated_operands-product}
 
 pub returns-clause-and : goal.returns-clause-and
 returns-clause-and c = evaluated_operands-and

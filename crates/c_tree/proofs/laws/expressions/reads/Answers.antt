@@ -1,5 +1,5 @@
 use Rattle.c_tree.proofs.laws.expressions.reads.Goals as goal
-use Rattle.c_tree.proofs.WorkedExpressions.{reads-number, reads-unset, reads-element, reads-at_length, reads-below, reads-far, reads-unset_array}
+use Rattle.c_tree.proofs.Worked.WorkedExpressions.{reads-number, reads-unset, reads-element, reads-at_length, reads-below, reads-far, reads-unset_array}
 
 pub returns-clause-number : goal.returns-clause-number
 returns-clause-number c = reads-number

@@ -1,5 +1,5 @@
 use Rattle.c_tree.proofs.laws.expressions.types.Goals as goal
-use Rattle.c_tree.proofs.WorkedExpressions.{types-sum, types-left_shift, types-right_shift, types-relation, types-connective, types-not, types-negation, types-choice, types-name}
+use Rattle.c_tree.proofs.Worked.WorkedExpressions.{types-sum, types-left_shift, types-right_shift, types-relation, types-connective, types-not, types-negation, types-choice, types-name}
 
 pub returns-clause-sum : goal.returns-clause-sum
 returns-clause-sum c = types-sum

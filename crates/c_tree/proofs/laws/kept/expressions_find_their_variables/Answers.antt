@@ -1,5 +1,5 @@
 use Rattle.c_tree.proofs.laws.kept.expressions_find_their_variables.Goals as goal
-use Rattle.c_tree.proofs.Evaluated.{expr_finds, val_gives}
+use Rattle.c_tree.proofs.Keeping.Evaluated.{expr_finds, val_gives}
 
 pub returns-clause-there : goal.returns-clause-there
 returns-clause-there c = expr_finds

@@ -1,5 +1,5 @@
 use Rattle.c_tree.proofs.laws.kept.runs_begin_in_the_layout.Goals as goal
-use Rattle.c_tree.proofs.Begun.{entry_begins, globals_begin, arguments_begin, count_begins}
+use Rattle.c_tree.proofs.Keeping.Begun.{entry_begins, globals_begin, arguments_begin, count_begins}
 
 pub returns-clause-entry : goal.returns-clause-entry
 returns-clause-entry c = entry_begins

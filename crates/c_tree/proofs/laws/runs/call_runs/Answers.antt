@@ -1,5 +1,5 @@
 use Rattle.c_tree.proofs.laws.runs.call_runs.Goals as goal
-use Rattle.c_tree.proofs.WorkedRuns.{call_runs-missing, call_runs-not_used, call_runs-filter}
+use Rattle.c_tree.proofs.Worked.WorkedRuns.{call_runs-missing, call_runs-not_used, call_runs-filter}
 
 pub returns-clause-missing : goal.returns-clause-missing
 returns-clause-missing c = call_runs-missing

@@ -1,5 +1,5 @@
 use Rattle.c_tree.proofs.laws.runs.loop_runs.Goals as goal
-use Rattle.c_tree.proofs.WorkedRuns.{loop_runs-while_ten, loop_runs-while_none, loop_runs-while_over, loop_runs-do_three, loop_runs-do_once, loop_runs-do_over, loop_runs-triangle}
+use Rattle.c_tree.proofs.Worked.WorkedRuns.{loop_runs-while_ten, loop_runs-while_none, loop_runs-while_over, loop_runs-do_three, loop_runs-do_once, loop_runs-do_over, loop_runs-triangle}
 
 pub returns-clause-while_ten : goal.returns-clause-while_ten
 returns-clause-while_ten c = loop_runs-while_ten

@@ -1,5 +1,5 @@
 use Rattle.c_tree.proofs.laws.runs.own_initialisers.Goals as goal
-use Rattle.c_tree.proofs.WorkedRuns.{own_initialisers-no_turn, own_initialisers-first_turn, own_initialisers-second_turn, own_initialisers-argument, own_initialisers-argument_again, own_initialisers-other_argument}
+use Rattle.c_tree.proofs.Worked.WorkedRuns.{own_initialisers-no_turn, own_initialisers-first_turn, own_initialisers-second_turn, own_initialisers-argument, own_initialisers-argument_again, own_initialisers-other_argument}
 
 pub returns-clause-no_turn : goal.returns-clause-no_turn
 returns-clause-no_turn c = own_initialisers-no_turn

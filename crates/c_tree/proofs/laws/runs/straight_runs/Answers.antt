@@ -1,5 +1,5 @@
 use Rattle.c_tree.proofs.laws.runs.straight_runs.Goals as goal
-use Rattle.c_tree.proofs.WorkedRuns.{straight_runs-return_of_zero, straight_runs-between, straight_runs-above, straight_runs-below, straight_runs-no_overflow, straight_runs-overflows, straight_runs-wraps}
+use Rattle.c_tree.proofs.Worked.WorkedRuns.{straight_runs-return_of_zero, straight_runs-between, straight_runs-above, straight_runs-below, straight_runs-no_overflow, straight_runs-overflows, straight_runs-wraps}
 
 pub returns-clause-return_of_zero : goal.returns-clause-return_of_zero
 returns-clause-return_of_zero c = straight_runs-return_of_zero

@@ -1,5 +1,5 @@
 use Rattle.c_tree.proofs.laws.runs.undefined_runs.Goals as goal
-use Rattle.c_tree.proofs.WorkedRuns.{undefined_runs-by_zero, undefined_runs-least, undefined_runs-least_rest, undefined_runs-guarded, undefined_runs-guard_holds, undefined_runs-outside, undefined_runs-inside}
+use Rattle.c_tree.proofs.Worked.WorkedRuns.{undefined_runs-by_zero, undefined_runs-least, undefined_runs-least_rest, undefined_runs-guarded, undefined_runs-guard_holds, undefined_runs-outside, undefined_runs-inside}
 
 pub returns-clause-by_zero : goal.returns-clause-by_zero
 returns-clause-by_zero c = undefined_runs-by_zero

@@ -1,5 +1,5 @@
 use Rattle.c_tree.proofs.laws.statements.assignments.Goals as goal
-use Rattle.c_tree.proofs.WorkedStatements.{assignments-converted, assignments-compound, assignments-compound_unset, assignments-overflow, assignments-element, assignments-outside, assignments-below, assignments-undefined_index, assignments-undefined_value, assignments-nothing}
+use Rattle.c_tree.proofs.Worked.WorkedStatements.{assignments-converted, assignments-compound, assignments-compound_unset, assignments-overflow, assignments-element, assignments-outside, assignments-below, assignments-undefined_index, assignments-undefined_value, assignments-nothing}
 
 pub returns-clause-converted : goal.returns-clause-converted
 returns-clause-converted c = assignments-converted

@@ -1,5 +1,5 @@
 use Rattle.c_tree.proofs.laws.statements.block_counts.Goals as goal
-use Rattle.c_tree.proofs.WorkedStatements.{block_counts-run, block_counts-group, block_counts-call, block_counts-jumps, block_counts-choice, block_counts-full_for, block_counts-bare_for, block_counts-do_loop}
+use Rattle.c_tree.proofs.Worked.WorkedStatements.{block_counts-run, block_counts-group, block_counts-call, block_counts-jumps, block_counts-choice, block_counts-full_for, block_counts-bare_for, block_counts-do_loop}
 
 pub returns-clause-run : goal.returns-clause-run
 returns-clause-run c = block_counts-run

@@ -1,5 +1,5 @@
 use Rattle.c_tree.proofs.laws.statements.declarations.Goals as goal
-use Rattle.c_tree.proofs.WorkedStatements.{declarations-no_initialiser, declarations-own_initialiser, declarations-own_list, declarations-converted, declarations-filled}
+use Rattle.c_tree.proofs.Worked.WorkedStatements.{declarations-no_initialiser, declarations-own_initialiser, declarations-own_list, declarations-converted, declarations-filled}
 
 pub returns-clause-no_initialiser : goal.returns-clause-no_initialiser
 returns-clause-no_initialiser c = declarations-no_initialiser

@@ -1,5 +1,5 @@
 use Rattle.c_tree.proofs.laws.statements.traces.Goals as goal
-use Rattle.c_tree.proofs.WorkedStatements.{traces-else_list, traces-for_continue, traces-while_break, traces-do_continue, traces-undefined_first, traces-bound_first}
+use Rattle.c_tree.proofs.Worked.WorkedStatements.{traces-else_list, traces-for_continue, traces-while_break, traces-do_continue, traces-undefined_first, traces-bound_first}
 
 pub returns-clause-else_list : goal.returns-clause-else_list
 returns-clause-else_list c = traces-else_list

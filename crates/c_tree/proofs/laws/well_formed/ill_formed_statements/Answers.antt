@@ -1,5 +1,5 @@
 use Rattle.c_tree.proofs.laws.well_formed.ill_formed_statements.Goals as goal
-use Rattle.c_tree.proofs.WorkedWellFormed.{stray_break, stray_continue, bound_of_zero, no_callee}
+use Rattle.c_tree.proofs.Worked.WorkedWellFormed.{stray_break, stray_continue, bound_of_zero, no_callee}
 
 pub returns-clause-stray_break : goal.returns-clause-stray_break
 returns-clause-stray_break c = stray_break

@@ -1,5 +1,5 @@
 use Rattle.c_tree.proofs.laws.well_formed.well_formed_programs.Goals as goal
-use Rattle.c_tree.proofs.WorkedWellFormed.{counted_while_is, triangular_loops_are, clamp_filter_is}
+use Rattle.c_tree.proofs.Worked.WorkedWellFormed.{counted_while_is, triangular_loops_are, clamp_filter_is}
 
 pub returns-clause-counted : goal.returns-clause-counted
 returns-clause-counted c = counted_while_is

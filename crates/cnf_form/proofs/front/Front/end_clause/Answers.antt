@@ -1,6 +1,6 @@
 use Rattle.std.proofs.Common.{◌≡◌, [], ◌++◌, ◌∷◌, arith}
 use Rattle.std.proofs.lemmas.Grind.{common_steps}
-use Rattle.cnf_form.proofs.Fronts.{ended, ended_words}
+use Rattle.cnf_form.proofs.Formulas.Fronts.{ended, ended_words}
 use Rattle.cnf_form.proofs.front.Front.end_clause.Goals as goal
 
 pub returns-clause-keeps : goal.returns-clause-keeps

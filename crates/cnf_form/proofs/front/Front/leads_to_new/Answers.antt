@@ -1,6 +1,6 @@
 use Rattle.std.proofs.Common.{refl, sym, ◌∙◌, arith}
 use Rattle.std.proofs.lemmas.Bool.{false≢true}
-use Rattle.cnf_form.proofs.Fronts.{leads_on, leads_back, leads_at_once}
+use Rattle.cnf_form.proofs.Formulas.Fronts.{leads_on, leads_back, leads_at_once}
 use Rattle.cnf_form.proofs.front.Front.leads_to_new.Goals as goal
 
 pub returns-then-has_new : goal.returns-then-has_new

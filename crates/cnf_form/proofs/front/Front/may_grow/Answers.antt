@@ -3,7 +3,7 @@ use Rattle.std.proofs.lemmas.Bool.{false≢true}
 use Rattle.std.proofs.lemmas.Int.{to_z-of_z}
 use Rattle.std.specs.Fmt.{signed_decimal}
 use Rattle.cnf_form.specs.Reading.{LeadsToNew}
-use Rattle.cnf_form.proofs.Growing.{zero_grows, minus_grows, minus_leads, number_grows, number_leads, stray, some_abs}
+use Rattle.cnf_form.proofs.Words.Growing.{zero_grows, minus_grows, minus_leads, number_grows, number_leads, stray, some_abs}
 use Rattle.cnf_form.proofs.front.Front.may_grow.Goals as goal
 
 pub returns-then-is_minus : goal.returns-then-is_minus

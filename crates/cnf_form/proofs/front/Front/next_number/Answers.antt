@@ -2,7 +2,7 @@ use Rattle.std.proofs.Common.{◌≡◌, ◌≢◌, ℕ, pos, ◌≤◌, unsigne
 use Rattle.std.proofs.lemmas.Bool.{false≢true}
 use Rattle.std.proofs.lemmas.Int.{to_z-of_z}
 use Rattle.cnf_form.specs.Reading.{IsUnnamed}
-use Rattle.cnf_form.proofs.Fronts.{not_new}
+use Rattle.cnf_form.proofs.Formulas.Fronts.{not_new}
 use Rattle.cnf_form.proofs.front.Front.next_number.Goals as goal
 
 pub returns-then-not-is_new : goal.returns-then-not-is_new

@@ -1,7 +1,7 @@
 use Rattle.std.proofs.Common.{◌≡◌, nat_eq, ◌++◌, ◌∷◌, [], unsigned_abs, w32, ap, ◌∙◌}
 use Rattle.std.proofs.lemmas.Int.{to_z-of_z}
 use Rattle.std.specs.HashSet.{contains}
-use Rattle.cnf_form.proofs.Fronts.{longer, longer_words, named_more}
+use Rattle.cnf_form.proofs.Formulas.Fronts.{longer, longer_words, named_more}
 use Rattle.cnf_form.proofs.front.Front.push_literal.Goals as goal
 
 pub returns-clause-keeps : goal.returns-clause-keeps

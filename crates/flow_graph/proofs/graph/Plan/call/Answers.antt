@@ -4,7 +4,7 @@ use Rattle.flow_laws.specs.Graphs.{graph}
 use Rattle.flow_graph.specs.Landings.{calls}
 use Rattle.flow_graph.specs.Plans.{Planned}
 use Rattle.graph_lists.specs.declared.spot.Spot.{Spot}
-use Rattle.flow_graph.proofs.Landed.{call_at}
+use Rattle.flow_graph.proofs.Layouts.Landed.{call_at}
 use Rattle.flow_graph.proofs.graph.Plan.call.Goals as goal
 
 pub returns : goal.returns

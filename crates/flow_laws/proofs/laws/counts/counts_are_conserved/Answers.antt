@@ -1,5 +1,5 @@
 use Rattle.flow_laws.proofs.laws.counts.counts_are_conserved.Goals as goal
-use Rattle.flow_laws.proofs.Formed.{entered, passed}
+use Rattle.flow_laws.proofs.Runs.WellFormedPrograms.{entered, passed}
 
 pub returns-clause-entry : goal.returns-clause-entry
 returns-clause-entry c = entered

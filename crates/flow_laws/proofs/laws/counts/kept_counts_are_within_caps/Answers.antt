@@ -1,5 +1,5 @@
 use Rattle.flow_laws.proofs.laws.counts.kept_counts_are_within_caps.Goals as goal
-use Rattle.flow_laws.proofs.KeptCaps.{contiguous_capped, kept_capped}
+use Rattle.flow_laws.proofs.Caps.KeptListsWithinCaps.{contiguous_capped, kept_capped}
 
 pub returns-clause-lists : goal.returns-clause-lists
 returns-clause-lists c = contiguous_capped

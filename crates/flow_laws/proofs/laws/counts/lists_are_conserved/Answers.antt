@@ -1,5 +1,5 @@
 use Rattle.flow_laws.proofs.laws.counts.lists_are_conserved.Goals as goal
-use Rattle.flow_laws.proofs.Conserved.{list_ends, list_closed}
+use Rattle.flow_laws.proofs.Counts.ListsConserved.{list_ends, list_closed}
 
 pub returns-clause-ends : goal.returns-clause-ends
 returns-clause-ends c = list_ends

@@ -1,5 +1,5 @@
 use Rattle.flow_laws.proofs.laws.counts.paths_are_conserved.Goals as goal
-use Rattle.flow_laws.proofs.Conserved.{path_entry, path_nodes}
+use Rattle.flow_laws.proofs.Counts.ListsConserved.{path_entry, path_nodes}
 
 pub returns-clause-entry : goal.returns-clause-entry
 returns-clause-entry c = path_entry

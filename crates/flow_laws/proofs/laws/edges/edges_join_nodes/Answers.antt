@@ -1,5 +1,5 @@
 use Rattle.flow_laws.proofs.laws.edges.edges_join_nodes.Goals as goal
-use Rattle.flow_laws.proofs.Ends.{edges_join}
+use Rattle.flow_laws.proofs.Graphs.EndsLead.{edges_join}
 
 pub returns-clause-from : goal.returns-clause-from
 returns-clause-from c = λ p h j e is. (edges_join p h j e is).from

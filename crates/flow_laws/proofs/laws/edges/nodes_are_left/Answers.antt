@@ -1,6 +1,6 @@
 use Rattle.flow_laws.proofs.laws.edges.nodes_are_left.Goals as goal
-use Rattle.flow_laws.proofs.Leaving.{node_left}
-use Rattle.flow_laws.proofs.Joining.{no_exit}
+use Rattle.flow_laws.proofs.Graphs.LeavingEdges.{node_left}
+use Rattle.flow_laws.proofs.Counts.ListsJoined.{no_exit}
 
 pub returns-clause-by_an_edge : goal.returns-clause-by_an_edge
 returns-clause-by_an_edge c = node_left

@@ -1,6 +1,6 @@
 use Rattle.flow_laws.proofs.laws.graphs.calls.Goals as goal
-use Rattle.flow_laws.proofs.WorkedDriving.{calls-landing}
-use Rattle.flow_laws.proofs.WorkedGraphs.{calls-edges, calls-blocks, calls-chains, calls-caps, calls-end, calls-none, calls-nested, calls-nested_chains, calls-nested_caps}
+use Rattle.flow_laws.proofs.Driving.WorkedDriving.{calls-landing}
+use Rattle.flow_laws.proofs.Graphs.WorkedGraphs.{calls-edges, calls-blocks, calls-chains, calls-caps, calls-end, calls-none, calls-nested, calls-nested_chains, calls-nested_caps}
 
 pub returns-clause-edges : goal.returns-clause-edges
 returns-clause-edges c = calls-edges

@@ -1,5 +1,5 @@
 use Rattle.flow_laws.proofs.laws.graphs.driven_by_inputs.Goals as goal
-use Rattle.flow_laws.proofs.WorkedDriving.{driven_by_inputs-path, driven_by_inputs-none, driven_by_inputs-begin, driven_by_inputs-guard, driven_by_inputs-not_contiguous, driven_by_inputs-both, driven_by_inputs-filter, driven_by_inputs-too_few, driven_by_inputs-other_mode}
+use Rattle.flow_laws.proofs.Driving.WorkedDriving.{driven_by_inputs-path, driven_by_inputs-none, driven_by_inputs-begin, driven_by_inputs-guard, driven_by_inputs-not_contiguous, driven_by_inputs-both, driven_by_inputs-filter, driven_by_inputs-too_few, driven_by_inputs-other_mode}
 
 pub returns-clause-path : goal.returns-clause-path
 returns-clause-path c = driven_by_inputs-path

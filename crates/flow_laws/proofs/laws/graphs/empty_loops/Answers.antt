@@ -1,5 +1,5 @@
 use Rattle.flow_laws.proofs.laws.graphs.empty_loops.Goals as goal
-use Rattle.flow_laws.proofs.WorkedGraphs.{empty_loops-for_edges, empty_loops-for_loops, empty_loops-for_caps, empty_loops-while_edges, empty_loops-while_loops, empty_loops-do_edges, empty_loops-do_loops, empty_loops-do_caps, empty_loops-for_keeps, empty_loops-for_breaks, empty_loops-do_keeps, empty_loops-do_breaks, empty_loops-enters_again}
+use Rattle.flow_laws.proofs.Graphs.WorkedGraphs.{empty_loops-for_edges, empty_loops-for_loops, empty_loops-for_caps, empty_loops-while_edges, empty_loops-while_loops, empty_loops-do_edges, empty_loops-do_loops, empty_loops-do_caps, empty_loops-for_keeps, empty_loops-for_breaks, empty_loops-do_keeps, empty_loops-do_breaks, empty_loops-enters_again}
 
 pub returns-clause-for_edges : goal.returns-clause-for_edges
 returns-clause-for_edges c = empty_loops-for_edges

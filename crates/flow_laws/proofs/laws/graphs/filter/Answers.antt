@@ -1,5 +1,5 @@
 use Rattle.flow_laws.proofs.laws.graphs.filter.Goals as goal
-use Rattle.flow_laws.proofs.WorkedDriving.{filter-call, filter-condition, filter-returned, filter-edges, filter-loops, filter-copies, filter-landing, filter-caps, filter-none_left, filter-all_left, filter-three_left, filter-no_more, filter-fourth, filter-fifth, filter-leaves, filter-enters_again, filter-counted}
+use Rattle.flow_laws.proofs.Driving.WorkedDriving.{filter-call, filter-condition, filter-returned, filter-edges, filter-loops, filter-copies, filter-landing, filter-caps, filter-none_left, filter-all_left, filter-three_left, filter-no_more, filter-fourth, filter-fifth, filter-leaves, filter-enters_again, filter-counted}
 
 pub returns-clause-edges : goal.returns-clause-edges
 returns-clause-edges c = filter-edges

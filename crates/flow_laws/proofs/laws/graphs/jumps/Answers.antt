@@ -1,5 +1,5 @@
 use Rattle.flow_laws.proofs.laws.graphs.jumps.Goals as goal
-use Rattle.flow_laws.proofs.WorkedGraphs.{jumps-in_while, jumps-in_do, jumps-in_for, jumps-without_step, jumps-while_loops, jumps-do_loops, jumps-for_loops}
+use Rattle.flow_laws.proofs.Graphs.WorkedGraphs.{jumps-in_while, jumps-in_do, jumps-in_for, jumps-without_step, jumps-while_loops, jumps-do_loops, jumps-for_loops}
 
 pub returns-clause-in_while : goal.returns-clause-in_while
 returns-clause-in_while c = jumps-in_while

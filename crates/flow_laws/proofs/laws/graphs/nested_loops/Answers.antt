@@ -1,6 +1,6 @@
 use Rattle.flow_laws.proofs.laws.graphs.nested_loops.Goals as goal
-use Rattle.flow_laws.proofs.WorkedDriving.{nested_loops-for_copies, nested_loops-do_copies}
-use Rattle.flow_laws.proofs.WorkedGraphs.{nested_loops-for_edges, nested_loops-for_loops, nested_loops-for_caps, nested_loops-do_edges, nested_loops-do_loops, nested_loops-do_caps}
+use Rattle.flow_laws.proofs.Driving.WorkedDriving.{nested_loops-for_copies, nested_loops-do_copies}
+use Rattle.flow_laws.proofs.Graphs.WorkedGraphs.{nested_loops-for_edges, nested_loops-for_loops, nested_loops-for_caps, nested_loops-do_edges, nested_loops-do_loops, nested_loops-do_caps}
 
 pub returns-clause-for_edges : goal.returns-clause-for_edges
 returns-clause-for_edges c = nested_loops-for_edges

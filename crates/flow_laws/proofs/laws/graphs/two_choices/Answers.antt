@@ -1,6 +1,6 @@
 use Rattle.flow_laws.proofs.laws.graphs.two_choices.Goals as goal
-use Rattle.flow_laws.proofs.WorkedDriving.{two_choices-leaving, two_choices-arriving, two_choices-into_exit, two_choices-statements, two_choices-many}
-use Rattle.flow_laws.proofs.WorkedGraphs.{two_choices-edges, two_choices-blocks, two_choices-caps, two_choices-path, two_choices-price, two_choices-broken, two_choices-entry_costs_nothing, two_choices-guard}
+use Rattle.flow_laws.proofs.Driving.WorkedDriving.{two_choices-leaving, two_choices-arriving, two_choices-into_exit, two_choices-statements, two_choices-many}
+use Rattle.flow_laws.proofs.Graphs.WorkedGraphs.{two_choices-edges, two_choices-blocks, two_choices-caps, two_choices-path, two_choices-price, two_choices-broken, two_choices-entry_costs_nothing, two_choices-guard}
 
 pub returns-clause-edges : goal.returns-clause-edges
 returns-clause-edges c = two_choices-edges

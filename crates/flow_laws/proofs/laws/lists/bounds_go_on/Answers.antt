@@ -1,5 +1,5 @@
 use Rattle.flow_laws.proofs.laws.lists.bounds_go_on.Goals as goal
-use Rattle.flow_laws.proofs.BoundsOn.{left_on, keeps_on, each_on, each_begin, each_by_number}
+use Rattle.flow_laws.proofs.Driving.BoundsStep.{left_on, keeps_on, each_on, each_begin, each_by_number}
 
 pub returns-clause-left : goal.returns-clause-left
 returns-clause-left c = left_on

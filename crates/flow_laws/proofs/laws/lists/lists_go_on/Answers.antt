@@ -1,5 +1,5 @@
 use Rattle.flow_laws.proofs.laws.lists.lists_go_on.Goals as goal
-use Rattle.flow_laws.proofs.Joining.{goes_on, leads_on, paths_end}
+use Rattle.flow_laws.proofs.Counts.ListsJoined.{goes_on, leads_on, paths_end}
 
 pub returns-clause-by_an_edge : goal.returns-clause-by_an_edge
 returns-clause-by_an_edge c = goes_on

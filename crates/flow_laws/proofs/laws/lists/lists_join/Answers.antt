@@ -1,5 +1,5 @@
 use Rattle.flow_laws.proofs.laws.lists.lists_join.Goals as goal
-use Rattle.flow_laws.proofs.Joining.{led_join, follows_begin, counts_join, costs_join}
+use Rattle.flow_laws.proofs.Counts.ListsJoined.{led_join, follows_begin, counts_join, costs_join}
 
 pub returns-clause-leads : goal.returns-clause-leads
 returns-clause-leads c = led_join

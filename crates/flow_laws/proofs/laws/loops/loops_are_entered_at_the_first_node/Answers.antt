@@ -1,5 +1,5 @@
 use Rattle.flow_laws.proofs.laws.loops.loops_are_entered_at_the_first_node.Goals as goal
-use Rattle.flow_laws.proofs.LoopLaws.{test_within, first_reached}
+use Rattle.flow_laws.proofs.Loops.LoopsBounded.{test_within, first_reached}
 
 pub returns-clause-test : goal.returns-clause-test
 returns-clause-test c = test_within

@@ -1,6 +1,6 @@
 use Rattle.flow_laws.proofs.laws.paths.driven_lists.Goals as goal
-use Rattle.flow_laws.proofs.Prefixes.{driven_follows, driven_front}
-use Rattle.flow_laws.proofs.Computed.{list_begin, driven_is}
+use Rattle.flow_laws.proofs.Driving.DrivenPrefixes.{driven_follows, driven_front}
+use Rattle.flow_laws.proofs.Driving.DrivingComputed.{list_begin, driven_is}
 
 pub returns-clause-follow : goal.returns-clause-follow
 returns-clause-follow c = driven_follows

@@ -1,5 +1,5 @@
 use Rattle.flow_laws.proofs.laws.paths.driving_is_computed.Goals as goal
-use Rattle.flow_laws.proofs.Computed.{same_driving, drives_ends, place_on, drives_on}
+use Rattle.flow_laws.proofs.Driving.DrivingComputed.{same_driving, drives_ends, place_on, drives_on}
 
 pub returns-clause-same : goal.returns-clause-same
 returns-clause-same c = same_driving

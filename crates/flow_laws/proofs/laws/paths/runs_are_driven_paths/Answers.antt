@@ -1,5 +1,5 @@
 use Rattle.flow_laws.proofs.laws.paths.runs_are_driven_paths.Goals as goal
-use Rattle.flow_laws.proofs.Formed.{to_path, to_run}
+use Rattle.flow_laws.proofs.Runs.WellFormedPrograms.{to_path, to_run}
 
 pub returns-clause-to_path : goal.returns-clause-to_path
 returns-clause-to_path c = to_path

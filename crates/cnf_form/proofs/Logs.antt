@@ -1,0 +1,4 @@
+-- The texts of logs.
+pub mod LogHeads
+pub mod LogLines
+pub mod LogTexts

@@ -1,0 +1,4 @@
+-- The loops of a graph.
+pub mod LoopsNested
+pub mod LoopsBounded
+pub mod LoopConditions
