@@ -13,22 +13,10 @@ use Rattle.report_text.specs.declared.stage.Stage.TheVariants.{Start, BehindCopi
 use Rattle.report_text.specs.Texts.{line_text, behind_blank, maybe_text, spent_name, numbered_line}
 use Rattle.report_text.specs.Conditions.{IsCost, MayBeCost}
 use Rattle.report_text.specs.Form.{Allows}
+use Rattle.report_text.specs.WholeLines.{IsLine}
 use Rattle.text_lines.proofs.Decimals.{one_number}
 use Rattle.report_text.proofs.Decimals.{AreDigits, digits, closed}
 use Rattle.text_lines.proofs.Decimals.{wide}
-
--- a line that may stand somewhere
-abbrev pub IsLine : ReportLine → Type 0
-IsLine (Copies n) = IsCost n
-IsLine (Ipet n) = IsCost n
-IsLine (Bound bound) = MayBeCost bound
-IsLine (Found n) = IsCost n
-IsLine (Exact n) = IsCost n
-IsLine (Input input) = HasNoFeed input
-IsLine Nothing = Unit {0}
-IsLine (Inexact n) = IsCost n
-IsLine (Best best) = MayBeCost best
-IsLine (SpentLine spent n) = IsCost n
 
 pub line_of : (stage : Stage) (line : ReportLine) → Allows stage line → IsLine line
 line_of Start (Copies n) h = omega (arith, h)

@@ -9,3 +9,4 @@ pub mod Complete
 pub mod Assembling
 pub mod Counting
 pub mod Shortest
+pub mod Whole

@@ -7,7 +7,7 @@ use Rattle.report_text.specs.Courses.{IsChoice, StopsInNumber, IsNoNumber, IsNum
 use Rattle.report_text.specs.declared.course.NumberCourse.{NumberCourse}
 use Rattle.report_text.specs.declared.course.NumberCourse.TheVariants.{Is, MayGrow, Breaks}
 use Rattle.text_lines.proofs.Decimals.{wide, one_number}
-use Rattle.report_text.proofs.Decimals.{digits, closed, opened, front_of, with_zero, nil_back}
+use Rattle.report_text.proofs.Decimals.{digits, closed, opened, front_of, with_zero}
 use Rattle.std.proofs.lemmas.List.{append_cancel_left}
 
 -- ---- behind the words

@@ -4,3 +4,4 @@ pub mod Faults
 pub mod Form
 pub mod Courses
 pub mod Values
+pub mod WholeLines

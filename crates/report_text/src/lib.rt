@@ -16,7 +16,7 @@ mod report_fault;
 mod stage;
 mod write;
 
-pub use law::{one_report, read_again};
+pub use law::{one_report, read_again, whole_lines_are_lines};
 pub use read::read_report;
 pub use report::{Last, Report, Shown, Spent};
 pub use report_fault::ReportFault;

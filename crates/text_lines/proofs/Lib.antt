@@ -3,3 +3,4 @@ pub mod Decimals
 pub mod Joining
 pub mod Leaving
 pub mod Onward
+pub mod WholeLines
