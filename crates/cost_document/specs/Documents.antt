@@ -1,12 +1,18 @@
 -- The document that a table's bytes spell, and what its keys hold. What TOML is, `toml` says. The three keys are this
 -- project's own.
 use Rattle.std.specs.Prelude.{
+  ◌≡◌,
+  ◌<◌,
   ◌==◌,
   ◌||◌,
+  ◌++◌,
   codes,
+  decimal,
+  get_or,
   ℕ,
   pos,
   List,
+  length,
   Bool,
   false,
   not,
@@ -15,6 +21,7 @@ use Rattle.std.specs.Prelude.{
   Some,
   None,
   is_none,
+  is_some,
   option_and_then,
   unwrap_or,
 }
@@ -65,6 +72,17 @@ cost_in _ = None
 -- its entry, or else `default`, where that is a whole number in range
 abbrev pub written_cost : Members → List ℕ → Option ℕ
 written_cost ms name = option_and_then cost_in (option_or (get_member name (entries ms)) (default ms))
+
+-- ---- names with numbers
+
+-- of a number in a function: `function:number`
+abbrev pub numbered_name : List ℕ → ℕ → List ℕ
+numbered_name function number = function ++ codes ":" ++ decimal number
+
+-- for each number below `count`, whether its name is a key
+pub record TellsNumbers (ms : Members) (function : List ℕ) (count : ℕ) (held : List Bool) : Type 0 where
+  pub long : length held ≡ count
+  pub each : (number : ℕ) → number < count → get_or held number false ≡ is_some (get_member (numbered_name function number) ms)
 
 -- ---- the first in byte order
 
