@@ -1,8 +1,7 @@
 -- Which names are known, as they are added one by one.
-use Rattle.std.proofs.Common.{◌≡◌, ℕ, suc, ◌+◌, ◌-◌, ◌<◌, Bool, true, false, cond, ◌&&◌, ◌||◌, List, ◌∷◌, Option, Some, None, option_map, refl, sym, ap, ◌∙◌, subst, inl, inr, arith}
+use Rattle.std.proofs.Common.{◌≡◌, ℕ, Bool, true, false, cond, ◌&&◌, ◌||◌, List, Option, Some, None, option_map, refl, sym, ap, ◌∙◌, subst, inl, inr}
 use Rattle.std.specs.Prelude.{is_some}
 use Rattle.std.specs.Str.{bytes_eq}
-use Rattle.std.specs.List.{range_with_len}
 use Rattle.std.proofs.lemmas.Bool.{cases_Bool, false_from_ne_true, true≢false, or_right}
 use Rattle.std.proofs.Common.{String, Global, Result, Ok, Err, string_bytes, nat_cmp}
 use Rattle.std.specs.Prelude.{OnOk, is_err}
@@ -36,6 +35,17 @@ added es name key was has =
           rw (same, here) (sym (or_right was true refl))
       | inr other ↦ rw other (or_false was)
     ])
+
+-- a name that has none
+pub not_added : (es : Members) (name key : List ℕ) (was held : Bool) → held ≡ is_some (get_member name es) → held ≡ false
+    → was ≡ (was || (bytes_eq key name && is_some (get_member key es)))
+not_added es name key was held is none =
+    elim (cases_Bool (bytes_eq key name)) [
+      | inl same ↦
+          let here : is_some (get_member key es) ≡ false = subst (λ k. is_some (get_member k es) ≡ false) (sym ((bytes_eq-Decides key name).0 same)) (sym is ∙ none) in
+          rw (same, here) (or_false was)
+      | inr other ↦ rw other (or_false was)
+    ]
 
 -- what `insert` says
 pub inserted : (es : Members) (name : String Global) (old new : BTreeSet (String Global)) {T E : Type 0} (r : Result T E) → is_err r ≡ false → is_some (get_member (string_bytes name) es) ≡ true

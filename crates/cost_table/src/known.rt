@@ -7,11 +7,11 @@ ghost use Rattle.std.specs.Str.{bytes_eq};
 ghost use Rattle.toml.specs.Data.{get_member};
 ghost use Rattle.toml.specs.View.{table_view};
 ghost use Rattle.cost_document.specs.Documents.{entries};
-ghost use Rattle.cost_table.specs.Tables.{names_of, names_block};
+ghost use Rattle.cost_table.specs.Tables.{block_name, names_of, names_block};
 
 use crate::blocks::{block_count, block_name};
 use c_tree::{Func, NoMemory};
-use cost_document::entry;
+use cost_document::{entry, numbers_held};
 use std::alloc::Global;
 use std::collections::BTreeSet;
 use toml::Table;
@@ -45,15 +45,36 @@ fn add_names(
         && is_some (get_member key (entries (table_view document.now)))))) }
 {
     let count = block_count(func).ok_or(NoMemory)?;
+    let held = numbers_held(alloc, document, func.name.as_slice(), count)?;
     for number in 0..count {
-        let name = block_name(alloc, &func.name, number)?;
-        add_name(known, document, name)?;
+        add_name(alloc, known, func, number, held[number], document)?;
     }
     Ok(())
 }
 
+// Adds the name of a block, of which `held` says whether it has an entry, where it has one. Without one it need not be
+// written.
+fn add_name(
+    alloc: Global,
+    known: &mut BTreeSet<String>,
+    func: &Func,
+    number: usize,
+    held: bool,
+    document: &Table,
+) -> Result<(), NoMemory>
+    requires { held ≡ is_some (get_member (block_name func.now.name number) (entries (table_view document.now))) }
+    ensures { OnOk result ((key : List ℕ) →
+        contains_text known.new key ≡ (contains_text known.old key || (bytes_eq key (block_name func.now.name number) && is_some (get_member key (entries (table_view document.now)))))) }
+{
+    if !held {
+        return Ok(());
+    }
+    let name = block_name(alloc, &func.name, number)?;
+    add_entry(known, document, name)
+}
+
 // Adds a name, where it has an entry.
-fn add_name(known: &mut BTreeSet<String>, document: &Table, name: Vec<u8>) -> Result<(), NoMemory>
+fn add_entry(known: &mut BTreeSet<String>, document: &Table, name: Vec<u8>) -> Result<(), NoMemory>
     ensures { OnOk result ((key : List ℕ) →
         contains_text known.new key ≡ (contains_text known.old key
         || (bytes_eq key name.items && is_some (get_member key (entries (table_view document.now)))))) }

@@ -20,5 +20,4 @@ loop-number-preserved c key =
     let more = any_more (contains_text c.loop-number.known key) (bytes_eq key (block_name name i)) left has in
     let split = range_with_len_first i c.in_ok-count.count c.loop-number-test.true in
     let before = rw split at c.loop-number.invariant key in
-    let one = rw c.in_ok-name.ensures at c.in_ok-add_name.ensures key in
-    ap (λ known. known || (left && has)) one ∙ more ∙ before
+    ap (λ known. known || (left && has)) (c.in_ok-add_name.ensures key) ∙ more ∙ before
