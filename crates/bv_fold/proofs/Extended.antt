@@ -1,14 +1,13 @@
 -- Stores with further terms: the terms that were there, and their words, are as before.
-use Rattle.std.proofs.Common.{◌≡◌, ◌<◌, ℕ, zero, suc, ◌+◌, Bool, true, false, if◌then◌else◌, List, [], ◌∷◌, ◌++◌, length, Some, refl, sym, ap, ◌∙◌, append_assoc, arith}
+use Rattle.std.proofs.Common.{◌≡◌, ◌<◌, ℕ, zero, suc, Bool, true, false, if◌then◌else◌, List, [], ◌∷◌, ◌++◌, length, map, Some, refl, sym, ap, ◌∙◌, append_assoc, arith}
 use Rattle.std.specs.Prelude.{slice_get, slice_index}
 use Rattle.std.specs.List.{list_any}
-use Rattle.std.proofs.lemmas.List.{length-append, append-nil}
+use Rattle.std.proofs.lemmas.List.{append-nil}
 use Rattle.c_tree.specs.declared.program.Input.{Input}
 use Rattle.bv_term.specs.declared.op.Op.{Op}
-use Rattle.bv_term.specs.Words.{op_word}
-use Rattle.bv_term.specs.Stores.{Terms, is_same_op, ops_with, words_from, input_word, op_words, tv}
+use Rattle.bv_term.specs.Stores.{Terms, is_same_op, ops_with, words_from, input_word, op_words, tv, fits_store, declared_ty}
+use Rattle.c_tree.specs.Meaning.Runs.{are_of}
 use Rattle.bv_fold.specs.Folding.{IsExtended}
-use Rattle.plain_laws.proofs.Lists.{index-front}
 use Rattle.bv_term.proofs.ValueLaws.{words_kept, words_then, words_many}
 
 -- ---- lists that go on
@@ -17,6 +16,11 @@ pub kept_op : (xs ys : List Op) (t : ℕ) (o : Op) → slice_get xs t ≡ Some o
 kept_op [] ys t o is = absurd (cc is)
 kept_op (x ∷ xs) ys zero o is = is
 kept_op (x ∷ xs) ys (suc t) o is = kept_op xs ys t o is
+
+pub earlier_op : (xs ys : List Op) (t : ℕ) (o : Op) → t < length xs → slice_get (xs ++ ys) t ≡ Some o → slice_get xs t ≡ Some o
+earlier_op [] ys t o h is = absurd (omega arith)
+earlier_op (x ∷ xs) ys zero o h is = is
+earlier_op (x ∷ xs) ys (suc t) o h is = earlier_op xs ys t o (omega arith) is
 
 -- ---- words
 
@@ -34,6 +38,9 @@ tv_kept old new t i e within =
     ap (λ ops. slice_index (words_from input [] ops) t) e.ops
     ∙ ap (λ ws. slice_index ws t) (words_then input [] old.ops e.further)
     ∙ words_kept input (words_from input [] old.ops) e.further t (omega (arith, words_many input [] old.ops))
+
+pub fits_before : (old new : Terms) (i : Input) → IsExtended old new → fits_store new i ≡ true → fits_store old i ≡ true
+fits_before old new i e fits = sym (ap (λ l. are_of (map declared_ty l) i.values) e.inputs) ∙ fits
 
 pub extended_itself : (terms : Terms) → IsExtended terms terms
 extended_itself terms = record { inputs = refl; further = []; ops = sym (append-nil terms.ops) }

@@ -3,24 +3,21 @@ use Rattle.std.proofs.Common.{◌≡◌, ◌<◌, ◌≤◌, ℕ, zero, suc, Boo
 use Rattle.std.specs.Prelude.{slice_get, slice_index, replicate, Contains, IsSomeAnd, IfOk}
 use Rattle.std.proofs.lemmas.Bool.{and_from, cases_order}
 use Rattle.std.proofs.lemmas.List.{length-append}
-use Rattle.c_tree.specs.declared.program.Input.{Input}
 use Rattle.c_tree.specs.Meaning.Runs.{are_of}
 use Rattle.bv_term.specs.declared.op.Op.{Op}
 use Rattle.bv_term.specs.declared.op.Op.TheVariants as op
 use Rattle.bv_term.specs.Stores.{Terms, AreTerms, tv, op_words, fits_store, declared_ty}
 use Rattle.bv_fold.specs.Folding.{operands, is_input, HasNoInput, NoInput, IsConst, IsExtended, IsFold}
 use Rattle.bv_fold.specs.Steps.{AreBelow, renamed_op, is_const, are_consts, is_over_constants, zeros, AreWords, IsSame, AreSame, HasConstants}
-use Rattle.bv_fold.proofs.Extended.{kept_op, tv_kept, words_count}
+use Rattle.bv_fold.specs.Remembered.{Remembered, IsRemembered}
+use Rattle.bv_fold.proofs.Extended.{extended_itself, earlier_op, kept_op, tv_kept, words_count, fits_before}
 use Rattle.bv_fold.proofs.Renamed.{operands_below, is_input_renamed, operands_renamed}
-use Rattle.bv_fold.proofs.Folds.{fits_at, zeros_fit}
+use Rattle.bv_fold.proofs.NextFolds.{fits_at, zeros_fit}
 
 -- ---- further terms
 
 pub longer : (old new : Terms) → IsExtended old new → length old.ops ≤ length new.ops
 longer old new e = omega (arith, ap (λ l. length l) e.ops, length-append old.ops e.further)
-
-fits_before : (old new : Terms) (i : Input) → IsExtended old new → fits_store new i ≡ true → fits_store old i ≡ true
-fits_before old new i e fits = sym (ap (λ l. are_of (map declared_ty l) i.values) e.inputs) ∙ fits
 
 one_further : (old new : Terms) (term folded : ℕ) → IsExtended old new → term < length old.ops → IsSame old term folded → IsSame new term folded
 one_further old new term folded e below same = record {
@@ -68,17 +65,6 @@ words_more old new ws e few are = record {
 const_further : (old new : Terms) (s : ℕ) → IsExtended old new → IsConst (slice_get old.ops s) → IsConst (slice_get new.ops s)
 const_further old new s e is = (is.0, ap (λ l. slice_get l s) e.ops ∙ kept_op old.ops e.further s (op.Const is.0) is.1)
 
--- the folds of terms without an input are constants
-pub constant_more : (first old new : Terms) (folded all : List ℕ) (term x : ℕ) → IsExtended old new → length folded ≡ term
-    → ((t : ℕ) → t < length folded → HasNoInput first.ops t → IsConst (slice_get old.ops (slice_index folded t)))
-    → (HasNoInput first.ops term → IsConst (slice_get new.ops x)) → all ≡ folded ++ x ∷ []
-    → (t : ℕ) → t < length all → HasNoInput first.ops t → IsConst (slice_get new.ops (slice_index all t))
-constant_more first old new folded all term x e count consts one is =
-    subst (λ (l : List ℕ). (t : ℕ) → t < length l → HasNoInput first.ops t → IsConst (slice_get new.ops (slice_index l t))) (sym is)
-    (each_more (λ t y. HasNoInput first.ops t → IsConst (slice_get new.ops y)) folded x
-    (λ t h no_input. const_further old new (slice_index folded t) e (consts t h no_input))
-    (subst (λ n. HasNoInput first.ops n → IsConst (slice_get new.ops x)) (sym count) one))
-
 are_consts_mapped : (ops : List Op) (to : ℕ → ℕ) (ss : List ℕ) → ((s : ℕ) → Contains ss s → is_const (slice_get ops (to s)) ≡ true) → are_consts ops (map to ss) ≡ true
 are_consts_mapped ops to [] each = refl
 are_consts_mapped ops to (s ∷ []) each = each s (0, omega arith, refl)
@@ -86,7 +72,7 @@ are_consts_mapped ops to (s ∷ t ∷ ss) each =
     and_from (is_const (slice_get ops (to s))) (are_consts ops (map to (t ∷ ss))) (each s (0, omega arith, refl))
     (are_consts_mapped ops to (t ∷ ss) (λ x h. each x (suc h.0, omega (arith, h.1), h.2)))
 
-below_of : (k : ℕ) (ss : List ℕ) (s : ℕ) → AreBelow k ss → Contains ss s → s < k
+pub below_of : (k : ℕ) (ss : List ℕ) (s : ℕ) → AreBelow k ss → Contains ss s → s < k
 below_of k [] s b h = absurd (omega (arith, h.1))
 below_of k (x ∷ ss) s b (zero, h, e) = subst (λ n. n < k) e b.0
 below_of k (x ∷ ss) s b (suc n, h, e) = below_of k ss s b.1 (n, omega (arith, h), e)
@@ -118,19 +104,66 @@ if_ok_both : {A E : Type 0} (P Q R : A → Type 0) (r : Result A E) → IfOk r P
 if_ok_both P Q R (Ok x) h k both = both x h k
 if_ok_both P Q R (Err e) h k both = tt
 
-pub folded_is : {E : Type 0} (r : Result ℕ E) (first old new : Terms) (folded : List ℕ) (term : ℕ) → IsExtended first old → IsExtended old new
-    → AreTerms old → length folded ≡ term → term < length first.ops
-    → ((t : ℕ) → t < length folded → HasNoInput first.ops t → IsConst (slice_get old.ops (slice_index folded t)))
-    → IfOk r (λ t. IsSame new term t) → IfOk r (λ t. HasConstants old.ops folded term → IsConst (slice_get new.ops t)) → IfOk r (λ t. IsFold first new term t)
-folded_is r first old new folded term d e fit count below consts same const =
-    if_ok_both (IsSame new term) (λ t. HasConstants old.ops folded term → IsConst (slice_get new.ops t)) (IsFold first new term) r same const
-    (λ t is_same is_const. record {
-      there = is_same.there;
-      same = λ i fits.
-          is_same.value i (ap (λ l. are_of (map declared_ty l) i.values) (e.inputs ∙ d.inputs) ∙ fits)
-          ∙ tv_kept old new term i e (omega (arith, below, longer first old d)) ∙ tv_kept first old term i d below;
-      constant = λ no_input. is_const (has_constants first old folded term d fit count consts no_input);
-    })
+-- ---- what is remembered
+
+pub nothing_remembered : (terms : Terms) → IsRemembered terms (record { folds = []; words = [] })
+nothing_remembered terms = record {
+  few_folds = omega arith;
+  few_words = omega arith;
+  folds = record { each = λ t h. absurd (omega (arith, h)) };
+  words = record { each = λ t h. absurd (omega (arith, h)) };
+  constant = λ t h. absurd (omega (arith, h));
+}
+
+-- what stands below a term does not change
+pub no_input_before : (old new : Terms) (t : ℕ) → IsExtended old new → AreTerms old → t < length old.ops → HasNoInput new.ops t → HasNoInput old.ops t
+no_input_before old new t e fit h (NoInput _ o is other below) =
+    let here : slice_get old.ops t ≡ Some o = earlier_op old.ops e.further t o h (sym (ap (λ l. slice_get l t) e.ops) ∙ is) in
+    let within : AreBelow t (operands o) = operands_below (length old.inputs) t o (fits_at old t o fit here) in
+    NoInput t o here other (λ s has. no_input_before old new s e fit (omega (arith, h, below_of t (operands o) s within has)) (below s has))
+
+pub no_input_after : (old new : Terms) (t : ℕ) → IsExtended old new → HasNoInput old.ops t → HasNoInput new.ops t
+no_input_after old new t e (NoInput _ o is other below) =
+    NoInput t o (ap (λ l. slice_get l t) e.ops ∙ kept_op old.ops e.further t o is) other (λ s has. no_input_after old new s e (below s has))
+
+-- the store goes on
+pub remembered_further : (old new : Terms) (r : Remembered) → IsExtended old new → AreTerms old → IsRemembered old r → IsRemembered new r
+remembered_further old new r e fit is = record {
+  few_folds = omega (arith, is.few_folds, longer old new e);
+  few_words = omega (arith, is.few_words, longer old new e);
+  folds = record { each = λ t h. one_further old new t (slice_index r.folds t) e (omega (arith, h, is.few_folds)) (is.folds.each t h) };
+  words = words_more old new r.words e is.few_words is.words;
+  constant = λ t h no_input. const_further old new (slice_index r.folds t) e
+      (is.constant t h (no_input_before old new t e fit (omega (arith, h, is.few_folds)) no_input));
+}
+
+-- and one more term is folded
+pub one_remembered : (old new : Terms) (r : Remembered) (folds : List ℕ) (term x : ℕ) → IsExtended old new → AreTerms old → IsRemembered old r
+    → length r.folds ≡ term → term < length old.ops → IsSame new term x
+    → (HasConstants old.ops r.folds term → IsConst (slice_get new.ops x)) → folds ≡ r.folds ++ x ∷ []
+    → IsRemembered new (record { folds = folds; words = r.words })
+one_remembered old new r folds term x e fit is count below same const all = record {
+  few_folds = omega (arith, ap (λ l. length l) all, length-append r.folds (x ∷ []), count, below, longer old new e);
+  few_words = omega (arith, is.few_words, longer old new e);
+  folds = same_more old new r.folds folds term x e is.folds count below same all;
+  words = words_more old new r.words e is.few_words is.words;
+  constant = subst (λ (l : List ℕ). (t : ℕ) → t < length l → HasNoInput new.ops t → IsConst (slice_get new.ops (slice_index l t))) (sym all)
+      (each_more (λ t y. HasNoInput new.ops t → IsConst (slice_get new.ops y)) r.folds x
+      (λ t h. (remembered_further old new r e fit is).constant t h)
+      (subst (λ n. HasNoInput new.ops n → IsConst (slice_get new.ops x)) (sym count)
+      (λ no_input. const (has_constants old old r.folds term (extended_itself old) fit count is.constant (no_input_before old new term e fit below no_input)))));
+}
+
+-- what is remembered of a term is its fold
+pub remembered_is_fold : (old new : Terms) (r : Remembered) (term : ℕ) → IsExtended old new → IsRemembered new r → term < length old.ops
+    → term < length r.folds → IsFold old new term (slice_index r.folds term)
+remembered_is_fold old new r term e is below here =
+    let same = is.folds.each term here in
+    record {
+      there = same.there;
+      same = λ i fits. same.value i (ap (λ l. are_of (map declared_ty l) i.values) e.inputs ∙ fits) ∙ tv_kept old new term i e below;
+      constant = λ no_input. is.constant term here (no_input_after old new term e no_input);
+    }
 
 -- ---- words at zeros
 

@@ -1,5 +1,8 @@
 pub mod Extended
 pub mod Renamed
-pub mod Folds
-pub mod Putting
+pub mod NextFolds
+mod TermFacts
+pub mod PutTerms
 pub mod FoldedTerms
+mod MarkedTerms
+mod CopiedTerms

@@ -153,3 +153,51 @@ operands_renamed to (op.Eq a b) = refl
 operands_renamed to (op.LtU a b) = refl
 operands_renamed to (op.LtS a b) = refl
 operands_renamed to (op.Ite c a b) = refl
+
+-- the word of an operator depends on those of its operands alone, and of the inputs
+pub word_on_words : (input f g : ℕ → ℕ) (o : Op) → AreSameAt f g (operands o) → op_word input f o ≡ op_word input g o
+word_on_words input f g (op.Input n) h = refl
+word_on_words input f g (op.Const n) h = refl
+word_on_words input f g (op.Not a) h = cc h.0
+word_on_words input f g (op.Neg a) h = cc h.0
+word_on_words input f g (op.Add a b) h = cc (h.0, h.1.0)
+word_on_words input f g (op.Sub a b) h = cc (h.0, h.1.0)
+word_on_words input f g (op.Mul a b) h = cc (h.0, h.1.0)
+word_on_words input f g (op.DivU a b) h = cc (h.0, h.1.0)
+word_on_words input f g (op.RemU a b) h = cc (h.0, h.1.0)
+word_on_words input f g (op.DivS a b) h = cc (h.0, h.1.0)
+word_on_words input f g (op.RemS a b) h = cc (h.0, h.1.0)
+word_on_words input f g (op.Shl a b) h = cc (h.0, h.1.0)
+word_on_words input f g (op.ShrU a b) h = cc (h.0, h.1.0)
+word_on_words input f g (op.ShrS a b) h = cc (h.0, h.1.0)
+word_on_words input f g (op.And a b) h = cc (h.0, h.1.0)
+word_on_words input f g (op.Or a b) h = cc (h.0, h.1.0)
+word_on_words input f g (op.Xor a b) h = cc (h.0, h.1.0)
+word_on_words input f g (op.Eq a b) h = cc (h.0, h.1.0)
+word_on_words input f g (op.LtU a b) h = cc (h.0, h.1.0)
+word_on_words input f g (op.LtS a b) h = cc (h.0, h.1.0)
+word_on_words input f g (op.Ite c a b) h = cc (h.0, h.1.0, h.1.1.0)
+
+-- an operator fits where its own operands are renamed below
+pub renamed_fits_on : (inputs k j : ℕ) (to : ℕ → ℕ) (o : Op) → FitsOp inputs k o → AreBelow j (map to (operands o)) → FitsOp inputs j (renamed_op to o)
+renamed_fits_on inputs k j to (op.Input n) h b = h
+renamed_fits_on inputs k j to (op.Const n) h b = h
+renamed_fits_on inputs k j to (op.Not a) h b = b.0
+renamed_fits_on inputs k j to (op.Neg a) h b = b.0
+renamed_fits_on inputs k j to (op.Add a c) h b = (b.0, b.1.0)
+renamed_fits_on inputs k j to (op.Sub a c) h b = (b.0, b.1.0)
+renamed_fits_on inputs k j to (op.Mul a c) h b = (b.0, b.1.0)
+renamed_fits_on inputs k j to (op.DivU a c) h b = (b.0, b.1.0)
+renamed_fits_on inputs k j to (op.RemU a c) h b = (b.0, b.1.0)
+renamed_fits_on inputs k j to (op.DivS a c) h b = (b.0, b.1.0)
+renamed_fits_on inputs k j to (op.RemS a c) h b = (b.0, b.1.0)
+renamed_fits_on inputs k j to (op.Shl a c) h b = (b.0, b.1.0)
+renamed_fits_on inputs k j to (op.ShrU a c) h b = (b.0, b.1.0)
+renamed_fits_on inputs k j to (op.ShrS a c) h b = (b.0, b.1.0)
+renamed_fits_on inputs k j to (op.And a c) h b = (b.0, b.1.0)
+renamed_fits_on inputs k j to (op.Or a c) h b = (b.0, b.1.0)
+renamed_fits_on inputs k j to (op.Xor a c) h b = (b.0, b.1.0)
+renamed_fits_on inputs k j to (op.Eq a c) h b = (b.0, b.1.0)
+renamed_fits_on inputs k j to (op.LtU a c) h b = (b.0, b.1.0)
+renamed_fits_on inputs k j to (op.LtS a c) h b = (b.0, b.1.0)
+renamed_fits_on inputs k j to (op.Ite c a d) h b = (b.0, b.1.0, b.1.1.0)

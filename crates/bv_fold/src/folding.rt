@@ -3,11 +3,9 @@
 ghost use Rattle.std.specs.Prelude.{◌<◌, IfOk, length};
 ghost use Rattle.bv_fold.specs.Folding.{IsExtended, IsFold};
 
-use crate::step::fold_next;
-use crate::zeros::words_at_zeros;
+use crate::folds::Folds;
 use bv_term::Terms;
 use c_tree::NoMemory;
-use sqlite_items::Items;
 use std::alloc::Global;
 
 /// A term of the same value at every input that fits the store, which is a constant where no input stands below the
@@ -18,11 +16,5 @@ pub fn fold(alloc: Global, terms: &mut Terms, term: u32) -> Result<u32, NoMemory
     ensures kept { IsExtended terms.old terms.new }
     ensures folded { IfOk result (λ t. IsFold terms.old terms.new term t) }
 {
-    let words = words_at_zeros(alloc, terms)?;
-    let mut folded = Items::new(alloc);
-    for next in 0..term {
-        let number = fold_next(terms, words.as_slice(), folded.as_slice(), next)?;
-        folded.push(number)?;
-    }
-    fold_next(terms, words.as_slice(), folded.as_slice(), term)
+    Folds::new(alloc).fold(terms, term)
 }

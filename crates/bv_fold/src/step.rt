@@ -6,7 +6,9 @@ ghost use Rattle.bv_fold.specs.Folding.{IsExtended, IsConst};
 ghost use Rattle.bv_fold.specs.Steps.{AreSame, AreWords, HasConstants, IsSame};
 
 use crate::operands::{is_over_constants, over_folds};
-use bv_term::{Op, Terms};
+use crate::putting::{put_constant, put_stand};
+use crate::simplify::simplify;
+use bv_term::Terms;
 use c_tree::NoMemory;
 
 /// Folds the next term: `folded` has the folds of the terms before it, and `words` the words of terms at one input.
@@ -29,13 +31,13 @@ pub(crate) fn fold_next(
     ensures constant { IfOk result (λ t. HasConstants terms.old.ops folded.now term
         → IsConst (slice_get terms.new.ops t)) }
 {
-    if terms.len() == u32::MAX {
-        return Err(NoMemory);
-    }
+    // Each operator of the store fits.
+    terms.len();
     let op = over_folds(*terms.op(term), folded);
     if is_over_constants(terms, op) {
-        terms.put(Op::Const(words[term as usize]))
+        put_constant(terms, words[term as usize])
     } else {
-        terms.put(op)
+        let stand = simplify(terms, op);
+        put_stand(terms, stand)
     }
 }

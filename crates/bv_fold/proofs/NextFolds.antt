@@ -1,5 +1,5 @@
 -- The next term is folded: what is put has its value.
-use Rattle.std.proofs.Common.{◌≡◌, ◌<◌, ℕ, zero, suc, ◌+◌, ◌^◌, Bool, true, false, not, List, [], ◌∷◌, length, map, Option, Some, None, pos, refl, sym, ap, ◌∙◌, subst, arith}
+use Rattle.std.proofs.Common.{◌≡◌, ◌<◌, ℕ, zero, suc, ◌+◌, Bool, true, false, not, List, [], ◌∷◌, length, map, Option, Some, None, pos, refl, sym, ap, ◌∙◌, subst, arith}
 use Rattle.std.specs.Prelude.{slice_get, slice_index, replicate}
 use Rattle.std.proofs.lemmas.Bool.{and_parts}
 use Rattle.std.proofs.lemmas.Option.{slice_get_within}
@@ -10,10 +10,13 @@ use Rattle.bv_term.specs.declared.op.Op.TheVariants as op
 use Rattle.bv_term.specs.Words.{op_word}
 use Rattle.bv_term.specs.Stores.{Terms, AreTerms, FitsOp, FitFrom, ops_with, op_number, input_word, tv, fits_store, declared_ty}
 use Rattle.bv_term.proofs.PutLaws.{put_found, put_within, put_fits}
-use Rattle.bv_term.proofs.ValueLaws.{tv_of_op}
+use Rattle.bv_term.proofs.ValueLaws.{fitting_small, tv_of_op}
 use Rattle.bv_term.proofs.WordLaws.{SameBelow, word_same}
 use Rattle.bv_fold.specs.Folding.{operands, is_input, IsExtended}
 use Rattle.bv_fold.specs.Steps.{renamed_op, is_const, are_consts, is_over_constants, zeros, AreWords, IsSame, AreSame}
+use Rattle.bv_fold.specs.declared.stand.Stand.{Stand}
+use Rattle.bv_fold.specs.declared.stand.Stand.TheVariants as stand
+use Rattle.bv_fold.specs.Standing.{AreWordsOf, StandsFor, IsPut}
 use Rattle.bv_fold.proofs.Extended.{tv_kept, put_extends}
 use Rattle.bv_fold.proofs.Renamed.{word_renamed, AreSameAt, word_on_operands, renamed_fits}
 use Rattle.plain_laws.proofs.Booleans.{false_from_not}
@@ -87,25 +90,38 @@ put_word old new o i fit fits inputs ops =
 there_put : (old new : Terms) (o : Op) → new.ops ≡ ops_with o old.ops → op_number o old.ops < length new.ops
 there_put old new o ops = subst (λ l. op_number o old.ops < length l) (sym ops) (put_within o old.ops)
 
+-- an operator is put
+pub put_operator_is : (old new : Terms) (o : Op) → AreTerms old → FitsOp (length old.inputs) (length old.ops) o
+    → new.inputs ≡ old.inputs → new.ops ≡ ops_with o old.ops → IsPut old new (stand.Operator o) (op_number o old.ops)
+put_operator_is old new o fit fits inputs ops = record {
+  there = there_put old new o ops;
+  value = λ i _.
+      let input : ℕ → ℕ = input_word i.values in
+      let kept : SameBelow (length old.ops) (λ s. tv new s i) (λ s. tv old s i) = record { each = λ s below. tv_kept old new s i (put_extends old new o inputs ops) below } in
+      put_word old new o i fit fits inputs ops ∙ word_same input (λ s. tv new s i) (λ s. tv old s i) (length old.inputs) (length old.ops) o kept fits;
+}
+
+-- the words of a store are those of its operators
+pub words_of_store : (terms : Terms) (i : Input) → AreTerms terms → fits_store terms i ≡ true → AreWordsOf terms (input_word i.values) (λ t. tv terms t i)
+words_of_store terms i fit fits = record {
+  small = λ t. fitting_small terms i t fit fits;
+  each = λ t o is. tv_of_op terms i t o fit is;
+}
+
 fits_back : (old new : Terms) (i : Input) → new.inputs ≡ old.inputs → fits_store new i ≡ true → fits_store old i ≡ true
 fits_back old new i inputs fits = sym (ap (λ l. are_of (map declared_ty l) i.values) inputs) ∙ fits
 
--- the operator over the folds is put
-pub put_is_same : (old new : Terms) (folded : List ℕ) (term : ℕ) (o : Op)
+-- what stands for the operator over the folds is put
+pub stand_is_same : (old new : Terms) (folded : List ℕ) (term : ℕ) (o : Op) (s : Stand) (t : ℕ)
     → AreTerms old → slice_get old.ops term ≡ Some o → length folded ≡ term → AreSame old folded
-    → new.inputs ≡ old.inputs → new.ops ≡ ops_with (renamed_op (slice_index folded) o) old.ops
-    → IsSame new term (op_number (renamed_op (slice_index folded) o) old.ops)
-put_is_same old new folded term o fit is count folds inputs ops = record {
-  there = there_put old new (renamed_op (slice_index folded) o) ops;
+    → StandsFor old (renamed_op (slice_index folded) o) s → IsExtended old new → IsPut old new s t → IsSame new term t
+stand_is_same old new folded term o s t fit is count folds stands extends put = record {
+  there = put.there;
   value = λ i fits.
-      let input : ℕ → ℕ = input_word i.values in
-      let over : Op = renamed_op (slice_index folded) o in
-      let over_fits = over_folds_fits old folded term o fit is count folds in
-      let extends : IsExtended old new = put_extends old new over inputs ops in
-      let kept : SameBelow (length old.ops) (λ s. tv new s i) (λ s. tv old s i) = record { each = λ s below. tv_kept old new s i extends below } in
-      put_word old new over i fit over_fits inputs ops
-      ∙ word_same input (λ s. tv new s i) (λ s. tv old s i) (length old.inputs) (length old.ops) over kept over_fits
-      ∙ over_folds_word old i folded term o fit is count folds (fits_back old new i inputs fits)
+      let fits_old = fits_back old new i extends.inputs fits in
+      put.value i fits
+      ∙ stands.same (input_word i.values) (λ x. tv old x i) (words_of_store old i fit fits_old)
+      ∙ over_folds_word old i folded term o fit is count folds fits_old
       ∙ sym (tv_kept old new term i extends (slice_get_within old.ops term o is));
 }
 
@@ -130,24 +146,20 @@ consts_same terms i j (s ∷ t ∷ ss) fit are =
     (const_same terms i j s fit both.0, consts_same terms i j (t ∷ ss) fit both.1)
 
 -- over constants, the word at one input is that at every input
-pub constant_is_same : (old new : Terms) (words folded : List ℕ) (term : ℕ) (o : Op)
+pub constant_is_same : (old new : Terms) (words folded : List ℕ) (term t : ℕ) (o : Op)
     → AreTerms old → slice_get old.ops term ≡ Some o → length folded ≡ term → AreSame old folded
-    → AreWords old words → term < length words → slice_index words term < 2 ^ 32
-    → is_over_constants old.ops (renamed_op (slice_index folded) o) ≡ true
-    → new.inputs ≡ old.inputs → new.ops ≡ ops_with (op.Const (slice_index words term)) old.ops
-    → IsSame new term (op_number (op.Const (slice_index words term)) old.ops)
-constant_is_same old new words folded term o fit is count folds are within small over_consts inputs ops = record {
-  there = there_put old new (op.Const (slice_index words term)) ops;
+    → AreWords old words → term < length words → is_over_constants old.ops (renamed_op (slice_index folded) o) ≡ true
+    → IsExtended old new → IsPut old new (stand.Constant (slice_index words term)) t → IsSame new term t
+constant_is_same old new words folded term t o fit is count folds are within over_consts extends put = record {
+  there = put.there;
   value = λ i fits.
-      let w : ℕ = slice_index words term in
       let over : Op = renamed_op (slice_index folded) o in
       let z : Input = zeros old in
       let both = and_parts (not (is_input over)) (are_consts old.ops (operands over)) over_consts in
-      let extends : IsExtended old new = put_extends old new (op.Const w) inputs ops in
-      put_word old new (op.Const w) i fit small inputs ops
+      put.value i fits
       ∙ are.each term within
       ∙ sym (over_folds_word old z folded term o fit is count folds (zeros_fit old))
       ∙ word_on_operands (input_word z.values) (input_word i.values) (λ s. tv old s z) (λ s. tv old s i) over (false_from_not (is_input over) both.0) (consts_same old z i (operands over) fit both.1)
-      ∙ over_folds_word old i folded term o fit is count folds (fits_back old new i inputs fits)
+      ∙ over_folds_word old i folded term o fit is count folds (fits_back old new i extends.inputs fits)
       ∙ sym (tv_kept old new term i extends (slice_get_within old.ops term o is));
 }
