@@ -63,7 +63,7 @@ impl From<CheckRefusal> for CheckFault {
     ghost use Rattle.c_faults.specs.Verdicts.{refusal_of};
     ghost use Rattle.c_check.specs.Answers.{fault_and_place};
 
-    ghost from_gives = { λ r e. told e ≡ Some (refusal_of r) };
+    ghost from_gives = { λ r e. fault_and_place e ≡ Some (refusal_of r) };
 
     fn from(refusal: CheckRefusal) -> CheckFault {
         let at = refusal.at;

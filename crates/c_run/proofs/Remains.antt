@@ -160,4 +160,4 @@ tested_none (Some v) x y e = absurd cc
 
 pub tested_some : (o : Option Value) (b : Bool) (x y : Outcome) → Some b ≡ option_map is_nonzero o → with_value o (λ v. if is_nonzero v then x else y) ≡ (if b then x else y)
 tested_some None b x y e = absurd cc
-tested_some (Some v) b x y e = ap (λ b. if b then x else y) (sym (same_Some e))
+tested_some (Some v) b x y e = ap (λ b. if b then x else y) (sym (same_Some b (is_nonzero v) e))

@@ -16,9 +16,9 @@ impl<'a> Machine<'a> {
     /// A `while` or a `for` from its condition on.
     pub(crate) fn turn(&mut self, given: Given<'a>, turns: Loop<'a>) -> Result<Task<'a>, NoMemory>
         ensures same { IfOk result (λ t. remains given.entry self.new t ≡ remains given.entry self.old
-            (Task.Turn loop_turns.entry)) }
+            (Task.Turn turns.entry)) }
         ensures less { IfOk result (λ t. work_left given.entry self.new t < work_left given.entry self.old
-            (Task.Turn loop_turns.entry)) }
+            (Task.Turn turns.entry)) }
     {
         self.cost = with_block(self.cost, given.costs, self.func, turns.at);
         match condition(turns.condition, &self.memory) {
@@ -31,9 +31,9 @@ impl<'a> Machine<'a> {
     // Enters the body of a loop once more, if its bound allows it.
     fn enter_body(&mut self, turns: Loop<'a>) -> Result<Task<'a>, NoMemory>
         ensures same { (g : Given)
-            → IfOk result (λ t. ComesTo g self.old self.new t (entering_loop g self.old loop_turns.entry)) }
+            → IfOk result (λ t. ComesTo g self.old self.new t (entering_loop g self.old turns.entry)) }
         ensures less { (g : Given) → IfOk result (λ t. work_left g self.new t < work_left g self.old
-            (Task.Turn loop_turns.entry)) }
+            (Task.Turn turns.entry)) }
     {
         if turns.left == 0 {
             return Ok(Task::OverBound);
@@ -53,9 +53,9 @@ impl<'a> Machine<'a> {
     /// A `do` from its body on.
     pub(crate) fn again(&mut self, turns: DoLoop<'a>) -> Result<Task<'a>, NoMemory>
         ensures same { (g : Given) → IfOk result (λ t. remains g self.new t
-            ≡ remains g self.old (Task.Again loop_turns.entry)) }
+            ≡ remains g self.old (Task.Again turns.entry)) }
         ensures less { (g : Given) → IfOk result (λ t. work_left g self.new t < work_left g self.old
-            (Task.Again loop_turns.entry)) }
+            (Task.Again turns.entry)) }
     {
         if turns.left == 0 {
             return Ok(Task::OverBound);
@@ -105,9 +105,9 @@ impl<'a> Machine<'a> {
     pub(crate) fn step(&mut self, turns: Loop<'a>, way: Way) -> Result<Task<'a>, NoMemory>
         ensures same { (g : Given)
             → IfOk result (λ t. ComesTo g self.old self.new t
-            (resumed_outcome g self.old (Pending.Step self.old.func loop_turns.entry) way)) }
+            (resumed_outcome g self.old (Pending.Step self.old.func turns.entry) way)) }
         ensures less { (g : Given) → IfOk result (λ t. work_left g self.new t < work_behind g
-            (Pending.Step self.old.func loop_turns.entry) + machine_work g self.old) }
+            (Pending.Step self.old.func turns.entry) + machine_work g self.old) }
     {
         if !goes_on(way) {
             return Ok(Task::Ended(past(way)));
@@ -131,9 +131,9 @@ impl<'a> Machine<'a> {
     /// What follows the body of a `do` that ended in this way.
     pub(crate) fn do_test(&mut self, given: Given<'a>, turns: DoLoop<'a>, way: Way) -> Task<'a>
         ensures same { ComesTo given.entry self.old self.new result (resumed_outcome given.entry self.old
-            (Pending.DoTest self.old.func loop_turns.entry) way) }
+            (Pending.DoTest self.old.func turns.entry) way) }
         ensures less { work_left given.entry self.new result < work_behind given.entry
-            (Pending.DoTest self.old.func loop_turns.entry) + machine_work given.entry self.old }
+            (Pending.DoTest self.old.func turns.entry) + machine_work given.entry self.old }
     {
         if !goes_on(way) {
             return Task::Ended(past(way));

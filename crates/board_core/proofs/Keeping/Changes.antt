@@ -90,12 +90,12 @@ placed f ir jr id new was r best turns count ev e ir' jr' b is may goes says the
     let items : List Held = put_held f.items id new in
     let same : length items ≡ length f.items = length-put_held f.items id new in
     let changed = taken_count-put (map posted_of f.items) id new r was is in
-    let now : taken_count (map posted_of items) ≡ taken_count (with_item_state (map posted_of f.items) id new) = ap taken_count (posted_item-put f.items id new) in
+    let now : taken_count (map posted_of items) ≡ taken_count (with_item_state (map posted_of f.items) id new) = ap taken_count (posted-put f.items id new) in
     let before = b.counted in
     let longer = length-append f.journal (ev ∷ []) in
     IsBoard-more f ir jr items best (f.settled + turns) count ev e ir' jr' b (record {
       may = may;
-      goes = goes ∙ ap (λ (l : List Posted). state l (cost_of_best best) (f.settled + turns)) (sym (posted_item-put f.items id new));
+      goes = goes ∙ ap (λ (l : List Posted). state l (cost_of_best best) (f.settled + turns)) (sym (posted-put f.items id new));
       told = ap (λ (rs : List Region). entries_of rs (f.journal ++ ev ∷ [])) (regions-put f.items id new) ∙ entries_more (regions f.items) f.journal ev ∙ ap (λ (d : Entry). entries_of (regions f.items) f.journal ++ d ∷ []) says;
       drives = drives;
       numbered = AreItems-put f.rows 0 f.items id new b.numbered;
@@ -234,11 +234,11 @@ reopened_fields f ir jr b some =
     let longer = length-append f.journal (event.Reopen ∷ []) in
     IsBoard-more f ir jr items f.best f.settled 0 event.Reopen entry.Reopen ir jr b (record {
       may = omega (arith, some, counted);
-      goes = ap (λ (l : List Posted). state l (cost_of_best f.best) f.settled) (sym (posted_item-freed f.items));
+      goes = ap (λ (l : List Posted). state l (cost_of_best f.best) f.settled) (sym (posted-freed f.items));
       told = ap (λ (rs : List Region). entries_of rs (f.journal ++ event.Reopen ∷ [])) (regions-freed f.items) ∙ entries_more (regions f.items) f.journal event.Reopen;
       drives = drives_best f ir jr b;
       numbered = AreItems-freed f.rows 0 f.items b.numbered;
-      counted = sym (ap taken_count (posted_item-freed f.items) ∙ taken_count-freed (map posted_of f.items));
+      counted = sym (ap taken_count (posted-freed f.items) ∙ taken_count-freed (map posted_of f.items));
       there = subst (λ n. EachOf (IsThere n) (f.journal ++ event.Reopen ∷ [])) (sym same) (EachOf-append (IsThere (length f.items)) f.journal (event.Reopen ∷ []) b.there (tt, tt));
       items_fit = omega (arith, fits, same);
       entries_fit = omega (arith, fit, longer, some);
@@ -251,9 +251,9 @@ seen_reopened f =
 
 -- ---- splitting
 
-posted_item-adopted : (rows : PlanRows) (parent : Region) (n : ℕ) (cs : List Child) → map posted_of (child_items rows n cs) ≡ map free (children_of parent cs)
-posted_item-adopted rows parent n [] = refl
-posted_item-adopted rows parent n (child ∷ cs) = ap (λ (l : List Posted). posted_item (region child.cuts child.prefix child.bound) Free ∷ l) (posted_item-adopted rows parent (n + 1) cs)
+posted-adopted : (rows : PlanRows) (parent : Region) (n : ℕ) (cs : List Child) → map posted_of (child_items rows n cs) ≡ map free (children_of parent cs)
+posted-adopted rows parent n [] = refl
+posted-adopted rows parent n (child ∷ cs) = ap (λ (l : List Posted). posted_item (region child.cuts child.prefix child.bound) Free ∷ l) (posted-adopted rows parent (n + 1) cs)
 
 regions-adopted : (rows : PlanRows) (parent : Region) (n : ℕ) (cs : List Child) → regions (child_items rows n cs) ≡ children_of parent cs
 regions-adopted rows parent n [] = refl
@@ -308,7 +308,7 @@ split_fields f ir jr who id r cs b stands fact =
     let fits = b.items_fit in
     let fit = b.entries_fit in
     let further = length-append f.journal (event.Split who id (length f.items) (length cs) ∷ []) in
-    let posted_are : map posted_of items ≡ with_item_state (map posted_of f.items) id Closed ++ map free (children_of r cs) = map-append posted_of (put_held f.items id Closed) (child_items f.rows (length f.items) cs) ∙ ap (λ (l : List Posted). l ++ map posted_of (child_items f.rows (length f.items) cs)) (posted_item-put f.items id Closed) ∙ ap (λ (l : List Posted). with_item_state (map posted_of f.items) id Closed ++ l) (posted_item-adopted f.rows r (length f.items) cs) in
+    let posted_are : map posted_of items ≡ with_item_state (map posted_of f.items) id Closed ++ map free (children_of r cs) = map-append posted_of (put_held f.items id Closed) (child_items f.rows (length f.items) cs) ∙ ap (λ (l : List Posted). l ++ map posted_of (child_items f.rows (length f.items) cs)) (posted-put f.items id Closed) ∙ ap (λ (l : List Posted). with_item_state (map posted_of f.items) id Closed ++ l) (posted-adopted f.rows r (length f.items) cs) in
     let changed = taken_count-put (map posted_of f.items) id Closed r (Taken who) stands in
     let all = taken_count-append (with_item_state (map posted_of f.items) id Closed) (map free (children_of r cs)) in
     let none = taken_count-free (children_of r cs) in
