@@ -8,8 +8,7 @@ use crate::character::is_suffix;
 use c_tree::Kind;
 
 /// The constant that a number run is: of `int` or `unsigned`, with its value.
-#[tactic(auto, unfolding(c_tree::specs::Tokens::TokenKinds::constant_of,
-    c_tree::specs::Tokens::TokenKinds::is_suffixed, c_tree::specs::Tokens::TokenKinds::without_suffix))]
+#[tactic(auto, unfolding(c_tree::specs::Tokens::TokenKinds::constant_of, c_tree::specs::Tokens::TokenKinds::is_suffixed, c_tree::specs::Tokens::TokenKinds::without_suffix))]
 pub(crate) fn constant_of(run: &[u8]) -> Option<Kind>
     ensures { result ≡ lexemes.constant_of run.now }
 {

@@ -193,8 +193,7 @@ fn bound_of(operand: &[u8]) -> Option<(u64, usize)>
 }
 
 /// What stands behind a `#` on its line.
-#[tactic(auto, using(crate::proofs::Operands::operand_rest_le),
-    unfolding(c_tree::specs::Tokens::Lexing::is_bound_line))]
+#[tactic(auto, using(crate::proofs::Operands::operand_rest_le), unfolding(c_tree::specs::Tokens::Lexing::is_bound_line))]
 pub fn read_directive(line: &[u8]) -> Directive
     ensures { IsDirective line.now result }
 {

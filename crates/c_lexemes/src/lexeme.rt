@@ -62,8 +62,7 @@ fn begins_number(here: &[u8]) -> bool
 }
 
 /// The length of the longest token that stands first (C11 6.4 paragraph 4).
-#[tactic(auto, using(crate::proofs::LongestMatch::name_here, crate::proofs::LongestMatch::number_here,
-    crate::proofs::LongestMatch::mark_here))]
+#[tactic(auto, using(crate::proofs::LongestMatch::name_here, crate::proofs::LongestMatch::number_here, crate::proofs::LongestMatch::mark_here))]
 pub fn lexeme_length(here: &[u8]) -> Option<usize>
     ensures { MatchOption result (HasNoToken here.now) (IsLongest here.now) }
 {
@@ -77,8 +76,7 @@ pub fn lexeme_length(here: &[u8]) -> Option<usize>
 }
 
 /// What a token with these bytes is; `None` is a number run that is no constant.
-#[tactic(auto, using(crate::proofs::LongestMatch::kind_of_number, crate::proofs::LongestMatch::kind_of_word,
-    crate::proofs::LongestMatch::kind_of_mark))]
+#[tactic(auto, using(crate::proofs::LongestMatch::kind_of_number, crate::proofs::LongestMatch::kind_of_word, crate::proofs::LongestMatch::kind_of_mark))]
 pub fn kind_of(lexeme: &[u8]) -> Option<Kind>
     requires { lexemes.could_be_token lexeme.now ≡ true }
     ensures { result ≡ lexemes.kind_of lexeme.now }

@@ -170,8 +170,7 @@ impl<'a> Reader<'a> {
 
     /// A scalar, or an element of an array.
     #[cycle(expr)]
-    #[tactic(auto, unfolding(parse_laws::specs::ReadExpr::variable_phrase,
-        parse_laws::specs::ReadExpr::element_or_name))]
+    #[tactic(auto, unfolding(parse_laws::specs::ReadExpr::variable_phrase, parse_laws::specs::ReadExpr::element_or_name))]
     fn variable(&mut self, room: usize) -> Result<MeasuredExpr, ReadingFault>
         requires { room < 999 }
         ensures low { IfOk result (λ t. t.height ≤ room + 1) }
@@ -216,8 +215,7 @@ impl<'a> Reader<'a> {
 
     /// A cast, or an expression in parentheses.
     #[cycle(expr)]
-    #[tactic(auto, unfolding(parse_laws::specs::ReadExpr::parenthesis_phrase,
-        parse_laws::specs::ReadExpr::cast_or_parentheses))]
+    #[tactic(auto, unfolding(parse_laws::specs::ReadExpr::parenthesis_phrase, parse_laws::specs::ReadExpr::cast_or_parentheses))]
     fn parenthesised(&mut self, room: usize) -> Result<MeasuredExpr, ReadingFault>
         requires { room < 999 }
         ensures low { IfOk result (λ t. t.height ≤ room + 1) }

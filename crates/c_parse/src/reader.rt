@@ -185,8 +185,7 @@ impl<'a> Reader<'a> {
     }
 
     /// Reads the symbol, and gives its place.
-    #[tactic(auto, using(parse_laws::proofs::Reading::Steps::seeing),
-        unfolding(parse_laws::specs::Parser::symbol_phrase))]
+    #[tactic(auto, using(parse_laws::proofs::Reading::Steps::seeing), unfolding(parse_laws::specs::Parser::symbol_phrase))]
     pub(crate) fn expect(&mut self, wanted: Symbol) -> Result<u32, ReadingFault>
         ensures { Reads (λ x. x) (spec.expect wanted self.old) result self.new }
     {
@@ -199,8 +198,7 @@ impl<'a> Reader<'a> {
     }
 
     /// Reads a name.
-    #[tactic(auto, using(parse_laws::proofs::Reading::Steps::seeing),
-        unfolding(parse_laws::specs::Parser::symbol_phrase))]
+    #[tactic(auto, using(parse_laws::proofs::Reading::Steps::seeing), unfolding(parse_laws::specs::Parser::symbol_phrase))]
     pub(crate) fn name(&mut self) -> Result<Spot, ReadingFault>
         ensures { Reads (λ x. x) (spec.name self.old) result self.new }
     {
@@ -213,8 +211,7 @@ impl<'a> Reader<'a> {
     }
 
     /// Reads an integer constant.
-    #[tactic(auto, using(parse_laws::proofs::Reading::Steps::seeing),
-        unfolding(parse_laws::specs::Parser::symbol_phrase))]
+    #[tactic(auto, using(parse_laws::proofs::Reading::Steps::seeing), unfolding(parse_laws::specs::Parser::symbol_phrase))]
     pub(crate) fn number(&mut self) -> Result<RawExpr, ReadingFault>
         ensures low { IfOk result (λ a. height a ≡ 1) }
         ensures reads { Reads (λ x. x) (spec.number_phrase self.old) result self.new }
@@ -228,8 +225,7 @@ impl<'a> Reader<'a> {
     }
 
     /// Reads a loop bound.
-    #[tactic(auto, using(parse_laws::proofs::Reading::Steps::seeing),
-        unfolding(parse_laws::specs::Parser::symbol_phrase))]
+    #[tactic(auto, using(parse_laws::proofs::Reading::Steps::seeing), unfolding(parse_laws::specs::Parser::symbol_phrase))]
     pub(crate) fn bound(&mut self) -> Result<RawBound, ReadingFault>
         ensures { Reads (λ x. x) (spec.bound self.old) result self.new }
     {
@@ -242,8 +238,7 @@ impl<'a> Reader<'a> {
     }
 
     /// Reads the symbol if it comes next, and tells whether it did.
-    #[tactic(auto, using(parse_laws::proofs::Reading::Steps::seeing),
-        unfolding(parse_laws::specs::Parser::optional_word))]
+    #[tactic(auto, using(parse_laws::proofs::Reading::Steps::seeing), unfolding(parse_laws::specs::Parser::optional_word))]
     pub(crate) fn optional(&mut self, word: Symbol) -> bool
         ensures { spec.optional_word word self.old ≡ Ok (result, self.new) }
     {

@@ -41,8 +41,7 @@ impl<'a> Reader<'a> {
     }
 
     /// Whether a name comes next to which the result of a call is assigned.
-    #[tactic(auto, using(parse_laws::proofs::Reading::StmtTurns::next_symbol),
-        unfolding(parse_laws::specs::ReadSimple::begins_call_into))]
+    #[tactic(auto, using(parse_laws::proofs::Reading::StmtTurns::next_symbol), unfolding(parse_laws::specs::ReadSimple::begins_call_into))]
     pub(crate) fn begins_call_into(&self) -> bool
         ensures { result ≡ spec.begins_call_into self.now }
     {
@@ -126,8 +125,7 @@ impl<'a> Reader<'a> {
     }
 
     /// The rest of an assignment to a place.
-    #[tactic(auto, using(parse_laws::proofs::Reading::StmtTurns::next_symbol),
-        unfolding(parse_laws::specs::ReadSimple::assignment_to))]
+    #[tactic(auto, using(parse_laws::proofs::Reading::StmtTurns::next_symbol), unfolding(parse_laws::specs::ReadSimple::assignment_to))]
     fn assignment_to(&mut self, room: usize, place: RawPlace) -> Result<RawStmt, ReadingFault>
         requires { room < 999 }
         ensures { Reads (λ x. x) (spec.assignment_to room place self.old) result self.new }
@@ -166,8 +164,7 @@ impl<'a> Reader<'a> {
     }
 
     /// An assignment, without its semicolon.
-    #[tactic(auto, using(parse_laws::proofs::Reading::StmtTurns::next_symbol),
-        unfolding(parse_laws::specs::ReadSimple::assignment))]
+    #[tactic(auto, using(parse_laws::proofs::Reading::StmtTurns::next_symbol), unfolding(parse_laws::specs::ReadSimple::assignment))]
     pub(crate) fn assignment(&mut self, room: usize) -> Result<RawStmt, ReadingFault>
         requires { room < 999 }
         ensures { Reads (λ x. x) (spec.assignment room self.old) result self.new }

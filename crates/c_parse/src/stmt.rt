@@ -74,8 +74,7 @@ impl<'a> Reader<'a> {
     }
 
     /// The condition of a `for`. A missing one is the number 1 at the place of the semicolon.
-    #[tactic(auto, using(parse_laws::proofs::Reading::StmtTurns::part_turns,
-        parse_laws::proofs::Reading::Steps::seeing))]
+    #[tactic(auto, using(parse_laws::proofs::Reading::StmtTurns::part_turns, parse_laws::proofs::Reading::Steps::seeing))]
     fn test(&mut self, room: usize) -> Result<Boxed<RawExpr>, ReadingFault>
         requires { room < 999 }
         ensures { Reads (λ x. x) (spec.test room self.old) result self.new }
@@ -157,8 +156,7 @@ impl<'a> Reader<'a> {
 
     /// A statement that is neither a declaration nor a compound statement.
     #[cycle(code)]
-    #[tactic(auto, using(parse_laws::proofs::Reading::StmtTurns::stmt_turns,
-        parse_laws::proofs::Reading::StmtTurns::next_symbol), unfolding(parse_laws::specs::ReadStmt::plain_phrase))]
+    #[tactic(auto, using(parse_laws::proofs::Reading::StmtTurns::stmt_turns, parse_laws::proofs::Reading::StmtTurns::next_symbol), unfolding(parse_laws::specs::ReadStmt::plain_phrase))]
     fn plain(&mut self, room: usize) -> Result<Items<RawStmt>, ReadingFault>
         requires { room < 1000 }
         ensures { Reads (λ x. x) (spec.statement room Plain self.old) result self.new }
@@ -278,8 +276,7 @@ impl<'a> Reader<'a> {
 
     /// A side of an `if`, or the body of a loop.
     #[cycle(code)]
-    #[tactic(auto, using(parse_laws::proofs::Reading::StmtTurns::stmt_turns),
-        unfolding(parse_laws::specs::ReadStmt::as_body))]
+    #[tactic(auto, using(parse_laws::proofs::Reading::StmtTurns::stmt_turns), unfolding(parse_laws::specs::ReadStmt::as_body))]
     fn body(&mut self, room: usize) -> Result<Items<RawStmt>, ReadingFault>
         requires { room < 1000 }
         ensures { Reads (λ x. x) (spec.statement room Body self.old) result self.new }
@@ -293,8 +290,7 @@ impl<'a> Reader<'a> {
 
     /// The list of a compound statement. Each statement takes a token, so there are enough turns.
     #[cycle(code)]
-    #[tactic(auto, using(parse_laws::proofs::Reading::Until::until_turns,
-        parse_laws::proofs::Reading::StmtTurns::stmt_turns))]
+    #[tactic(auto, using(parse_laws::proofs::Reading::Until::until_turns, parse_laws::proofs::Reading::StmtTurns::stmt_turns))]
     pub(crate) fn block(&mut self, room: usize) -> Result<Items<RawStmt>, ReadingFault>
         requires { room < 1000 }
         ensures { Reads (λ x. x) (spec.compound_phrase (spec.statement room Item) self.old) result self.new }
@@ -313,8 +309,7 @@ impl<'a> Reader<'a> {
 
     /// A statement of a list.
     #[cycle(code)]
-    #[tactic(auto, using(parse_laws::proofs::Reading::StmtTurns::stmt_turns),
-        unfolding(parse_laws::specs::ReadStmt::as_item))]
+    #[tactic(auto, using(parse_laws::proofs::Reading::StmtTurns::stmt_turns), unfolding(parse_laws::specs::ReadStmt::as_item))]
     fn item(&mut self, room: usize) -> Result<Items<RawStmt>, ReadingFault>
         requires { room < 1000 }
         ensures { Reads (λ x. x) (spec.statement room Item self.old) result self.new }

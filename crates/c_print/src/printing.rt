@@ -111,8 +111,7 @@ fn push_params(text: &mut Vec<u8>, func: &Func) -> Result<(), NoMemory>
     push_listed(text, &locals[..count])
 }
 
-#[tactic(auto, unfolding(print_laws::specs::Printed::params_text, print_laws::specs::Printed::param_text,
-    print_laws::specs::PrintedExpressions::comma_list))]
+#[tactic(auto, unfolding(print_laws::specs::Printed::params_text, print_laws::specs::Printed::param_text, print_laws::specs::PrintedExpressions::comma_list))]
 fn push_listed(text: &mut Vec<u8>, params: &[Local]) -> Result<(), NoMemory>
     ensures { OnOk result (text.new.items ≡ text.old.items ++ params_text params.now) }
 {

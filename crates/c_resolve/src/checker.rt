@@ -153,8 +153,7 @@ impl<'a> Checker<'a> {
     /// The length of an array, if it is written.
     pub(crate) fn length(&mut self, e: &Option<RawExpr>) -> Result<(), NoMemory>
         ensures names { self.new.names ≡ self.old.names }
-        ensures first { OnOk result (self.new.verdict ≡ after_uses self.old.verdict (length_uses self.old.names e.now))
-            }
+        ensures first { OnOk result (self.new.verdict ≡ after_uses self.old.verdict (length_uses self.old.names e.now)) }
     {
         expr::length(self.alloc, &self.names, &mut self.verdict, e)
     }

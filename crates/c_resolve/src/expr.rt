@@ -37,8 +37,7 @@ fn read(names: &Names, verdict: &mut Verdict, x: &Spot, indexed: bool) -> Option
 
 /// An expression with its names replaced.
 #[cycle(exprs)]
-#[tactic(auto, using(c_constants::proofs::ConstantLayers::expr_layers, crate::proofs::UseLayers::expr_use_layers,
-    c_faults::proofs::AfterUses::after_uses_rules))]
+#[tactic(auto, using(c_constants::proofs::ConstantLayers::expr_layers, crate::proofs::UseLayers::expr_use_layers, c_faults::proofs::AfterUses::after_uses_rules))]
 pub(crate) fn expr(
     alloc: Global,
     names: &Names,
@@ -80,8 +79,7 @@ fn boxed(
 
 // An element of an array.
 #[cycle(exprs)]
-#[tactic(auto, using(c_constants::proofs::ConstantLayers::expr_layers, crate::proofs::UseLayers::expr_use_layers,
-    c_faults::proofs::AfterUses::after_uses_rules))]
+#[tactic(auto, using(c_constants::proofs::ConstantLayers::expr_layers, crate::proofs::UseLayers::expr_use_layers, c_faults::proofs::AfterUses::after_uses_rules))]
 fn element(
     alloc: Global,
     names: &Names,
@@ -99,8 +97,7 @@ fn element(
 
 // An operator with two operands.
 #[cycle(exprs)]
-#[tactic(auto, using(c_constants::proofs::ConstantLayers::expr_layers, crate::proofs::UseLayers::expr_use_layers,
-    c_faults::proofs::AfterUses::after_uses_rules))]
+#[tactic(auto, using(c_constants::proofs::ConstantLayers::expr_layers, crate::proofs::UseLayers::expr_use_layers, c_faults::proofs::AfterUses::after_uses_rules))]
 fn binary(
     alloc: Global,
     names: &Names,
@@ -119,8 +116,7 @@ fn binary(
 
 // A choice by a condition.
 #[cycle(exprs)]
-#[tactic(auto, using(c_constants::proofs::ConstantLayers::expr_layers, crate::proofs::UseLayers::expr_use_layers,
-    c_faults::proofs::AfterUses::after_uses_rules))]
+#[tactic(auto, using(c_constants::proofs::ConstantLayers::expr_layers, crate::proofs::UseLayers::expr_use_layers, c_faults::proofs::AfterUses::after_uses_rules))]
 fn choice(
     alloc: Global,
     names: &Names,

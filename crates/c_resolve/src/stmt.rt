@@ -98,8 +98,7 @@ impl<'a> Checker<'a> {
     }
 
     // A call.
-    #[tactic(auto, using(c_faults::proofs::AfterUses::after_uses_rules, crate::proofs::StmtLayers::stmt_layers,
-        crate::proofs::StmtLayers::stmt_use_layers, crate::proofs::StmtLayers::behind_layers))]
+    #[tactic(auto, using(c_faults::proofs::AfterUses::after_uses_rules, crate::proofs::StmtLayers::stmt_layers, crate::proofs::StmtLayers::stmt_use_layers, crate::proofs::StmtLayers::behind_layers))]
     fn call(
         &mut self,
         target: &'a RawTarget,
@@ -123,8 +122,7 @@ impl<'a> Checker<'a> {
     }
 
     // An assignment.
-    #[tactic(auto, using(c_faults::proofs::AfterUses::after_uses_rules, crate::proofs::StmtLayers::stmt_layers,
-        crate::proofs::StmtLayers::stmt_use_layers, crate::proofs::StmtLayers::behind_layers))]
+    #[tactic(auto, using(c_faults::proofs::AfterUses::after_uses_rules, crate::proofs::StmtLayers::stmt_layers, crate::proofs::StmtLayers::stmt_use_layers, crate::proofs::StmtLayers::behind_layers))]
     fn assignment(
         &mut self,
         place: &RawPlace,
@@ -154,8 +152,7 @@ impl<'a> Checker<'a> {
     }
 
     // A `return`.
-    #[tactic(auto, using(c_faults::proofs::AfterUses::after_uses_rules, crate::proofs::StmtLayers::stmt_layers,
-        crate::proofs::StmtLayers::stmt_use_layers, crate::proofs::StmtLayers::behind_layers))]
+    #[tactic(auto, using(c_faults::proofs::AfterUses::after_uses_rules, crate::proofs::StmtLayers::stmt_layers, crate::proofs::StmtLayers::stmt_use_layers, crate::proofs::StmtLayers::behind_layers))]
     fn returning(&mut self, at: u32, e: &Option<RawExpr>) -> Result<Stmt, NoMemory>
         ensures tree { IfOk result (λ s. s ≡ stmt_of (scope_of self.old) (raw.Return at e.now)) }
         ensures scope { OnOk result (scope_of self.new ≡ scope_behind (scope_of self.old) (raw.Return at e.now)) }
@@ -217,8 +214,7 @@ impl<'a> Checker<'a> {
 
     // A `while`, whose body is a list inside.
     #[cycle(stmts)]
-    #[tactic(auto, using(c_faults::proofs::AfterUses::after_uses_rules, crate::proofs::StmtLayers::stmt_layers,
-        crate::proofs::StmtLayers::stmt_use_layers, crate::proofs::StmtLayers::behind_layers))]
+    #[tactic(auto, using(c_faults::proofs::AfterUses::after_uses_rules, crate::proofs::StmtLayers::stmt_layers, crate::proofs::StmtLayers::stmt_use_layers, crate::proofs::StmtLayers::behind_layers))]
     fn while_loop(
         &mut self,
         at: u32,
@@ -240,8 +236,7 @@ impl<'a> Checker<'a> {
 
     // A `do`, whose body's names are not in scope in its condition.
     #[cycle(stmts)]
-    #[tactic(auto, using(c_faults::proofs::AfterUses::after_uses_rules, crate::proofs::StmtLayers::stmt_layers,
-        crate::proofs::StmtLayers::stmt_use_layers, crate::proofs::StmtLayers::behind_layers))]
+    #[tactic(auto, using(c_faults::proofs::AfterUses::after_uses_rules, crate::proofs::StmtLayers::stmt_layers, crate::proofs::StmtLayers::stmt_use_layers, crate::proofs::StmtLayers::behind_layers))]
     fn do_loop(
         &mut self,
         at: u32,
@@ -263,8 +258,7 @@ impl<'a> Checker<'a> {
 
     // A statement.
     #[cycle(stmts)]
-    #[tactic(auto, using(c_faults::proofs::AfterUses::after_uses_rules, crate::proofs::StmtLayers::stmt_layers,
-        crate::proofs::StmtLayers::stmt_use_layers, crate::proofs::StmtLayers::behind_layers))]
+    #[tactic(auto, using(c_faults::proofs::AfterUses::after_uses_rules, crate::proofs::StmtLayers::stmt_layers, crate::proofs::StmtLayers::stmt_use_layers, crate::proofs::StmtLayers::behind_layers))]
     fn stmt(&mut self, stmt: &'a RawStmt) -> Result<Stmt, NoMemory>
         ensures tree { IfOk result (λ s. s ≡ stmt_of (scope_of self.old) stmt.now) }
         ensures scope { OnOk result (scope_of self.new ≡ scope_behind (scope_of self.old) stmt.now) }

@@ -117,8 +117,7 @@ impl<'a> Machine<'a> {
 
     // Puts a call's result where it goes.
     fn take_result(&mut self, target: Target, value: Option<Value>) -> Task<'a>
-        ensures same { (g : Given) → remains g self.new result ≡ ends_as g self.old (give target value self.old.memory)
-            }
+        ensures same { (g : Given) → remains g self.new result ≡ ends_as g self.old (give target value self.old.memory) }
         ensures less { (g : Given) → work_left g self.new result < 1 + machine_work g self.old }
     {
         match target {

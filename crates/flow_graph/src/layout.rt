@@ -319,8 +319,7 @@ pub(crate) fn emit_list(
     ensures items { IfOk result (λ b. laid_out (copies [] scope.entry.funcs.now) out.new
         ≡ laid_out (copies [] scope.entry.funcs.now) out.old
         ++ list_spots (copies_above scope.entry.funcs.now scope.entry.func)
-        (position_at scope.entry.func scope.entry.chain.now at.scale) list.now at.block at.node false (lead_targets k))
-            }
+        (position_at scope.entry.func scope.entry.chain.now at.scale) list.now at.block at.node false (lead_targets k)) }
 {
     let mut left = list_nodes(scope, list);
     let mut block = at.block;
@@ -516,8 +515,7 @@ fn emit_for(
 
 // A statement that is not simple.
 #[cycle(emit)]
-#[tactic(auto, using(flow_laws::proofs::Graphs::FlowLayers::flow_layers,
-    c_tree::proofs::Layers::ExecLayers::exec_layers))]
+#[tactic(auto, using(flow_laws::proofs::Graphs::FlowLayers::flow_layers, c_tree::proofs::Layers::ExecLayers::exec_layers))]
 fn emit(
     alloc: Global,
     scope: Scope,

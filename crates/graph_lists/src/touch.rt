@@ -95,8 +95,7 @@ pub fn keeps_all(touches: &[Items<Touch>], list: &[u16]) -> bool
 
 fn keep_each(row: &[Touch], left: &mut [Option<u32>; MOST_LOOPS]) -> bool
     requires { are_low row.now ≡ true }
-    ensures { (go : Counters → Bool) → is_kept_over row.now (counters left.old) go ≡ (result && go (counters left.new))
-        }
+    ensures { (go : Counters → Bool) → is_kept_over row.now (counters left.old) go ≡ (result && go (counters left.new)) }
 {
     for touch in row {
         if !keep(*touch, left) {

@@ -32,8 +32,7 @@ pub(crate) fn bin_weight(op: BinOp) -> u64
 
 /// The weight of an element of an array, with an index of this weight.
 pub(crate) fn element_weight(scope: Scope, array: Var, index: u64) -> u64
-    ensures { result ≡ capped_weight (32 * spec.length_of scope.entry.locals.now scope.entry.globals.now array + index)
-        }
+    ensures { result ≡ capped_weight (32 * spec.length_of scope.entry.locals.now scope.entry.globals.now array + index) }
 {
     let length = u64::from(length_of(scope, array));
     (32 * length).saturating_add(index)

@@ -53,8 +53,7 @@ fn weight_of_all(plan: &Plan, e: u16, times: u64) -> u64
 
 fn edge_weight(plan: &Plan, e: u16) -> u64
     requires { e < length (edges (graph plan.now.program)) }
-    ensures { result ≡ capped_weight (spec.edge_weight plan.now.program (slice_get (edges (graph plan.now.program)) e))
-        }
+    ensures { result ≡ capped_weight (spec.edge_weight plan.now.program (slice_get (edges (graph plan.now.program)) e)) }
 {
     let program = plan.program();
     let from = plan.edge(e).from;

@@ -22,8 +22,7 @@ pub fn push_global(text: &mut Vec<u8>, global: &Global) -> Result<(), NoMemory>
 }
 
 // The initialiser of a global of this type and length.
-#[tactic(auto, unfolding(print_laws::specs::Printed::initial_text, print_laws::specs::PrintedStatements::list_text,
-    print_laws::specs::PrintedExpressions::comma_list))]
+#[tactic(auto, unfolding(print_laws::specs::Printed::initial_text, print_laws::specs::PrintedStatements::list_text, print_laws::specs::PrintedExpressions::comma_list))]
 fn push_initial(
     text: &mut Vec<u8>,
     ty: Ty,
@@ -48,8 +47,7 @@ fn push_initial(
 }
 
 fn push_more_values(text: &mut Vec<u8>, ty: Ty, values: &[i64]) -> Result<(), NoMemory>
-    ensures { OnOk result (text.new.items ≡ text.old.items ++ flat_map (λ z. codes ", " ++ value_text ty z) values.now)
-        }
+    ensures { OnOk result (text.new.items ≡ text.old.items ++ flat_map (λ z. codes ", " ++ value_text ty z) values.now) }
 {
     for value in values {
         push(text, b", ")?;

@@ -176,8 +176,7 @@ pub fn push_declared(
 }
 
 /// The declaration of a local, without an initialiser.
-#[tactic(auto, unfolding(print_laws::specs::PrintedStatements::declaration_text,
-    print_laws::specs::PrintedStatements::local_text))]
+#[tactic(auto, unfolding(print_laws::specs::PrintedStatements::declaration_text, print_laws::specs::PrintedStatements::local_text))]
 pub fn push_declaration(text: &mut Vec<u8>, func: &Func, number: u32) -> Result<(), NoMemory>
     ensures { OnOk result (text.new.items ≡ text.old.items ++ declaration_text func.now number) }
 {

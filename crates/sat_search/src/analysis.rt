@@ -71,8 +71,7 @@ fn trace_level(
     requires known { All (All (IsWithin trail.now.variables)) known.now }
     requires within { All (IsWithin trail.now.variables) trail.now.literals }
     requires apart { NamesOnce trail.now.literals }
-    requires reasoned { (p : ℕ) → marks.old.from < p → p < length trail.now.literals → IsReasoned known.now trail.now p
-        }
+    requires reasoned { (p : ℕ) → marks.old.from < p → p < length trail.now.literals → IsReasoned known.now trail.now p }
     requires sized { length marks.old.seen.items ≡ trail.now.variables + 1 }
     requires low { IsLow trail.now.literals marks.old.seen.items marks.old.from marks.old.low }
     requires above { marks.old.from ≤ marks.old.low }

@@ -104,8 +104,7 @@ impl Search {
 
     /// Takes the clauses of the formula in; some clause, where one is false already.
     pub(crate) fn load_all(&mut self, cnf: &Cnf) -> Result<Option<u32>, AllocError>
-        requires loading { IsLoading cnf.now self.old.trail self.old.watches.pairs.items self.old.watches.lists.items 0
-            }
+        requires loading { IsLoading cnf.now self.old.trail self.old.watches.pairs.items self.old.watches.lists.items 0 }
         requires lines { self.old.lines.items ≡ [] }
         requires known { self.old.known ≡ cnf.now.clauses }
         requires starts { self.old.starts.items ≡ [] }
