@@ -96,10 +96,6 @@ has_constants first now folded term e fit count consts (NoInput _ o is other bel
 
 -- ---- the outcome
 
-pub if_ok_more : {A E : Type 0} (P Q : A → Type 0) (r : Result A E) → IfOk r P → ((x : A) → P x → Q x) → IfOk r Q
-if_ok_more P Q (Ok x) h more = more x h
-if_ok_more P Q (Err e) h more = tt
-
 if_ok_both : {A E : Type 0} (P Q R : A → Type 0) (r : Result A E) → IfOk r P → IfOk r Q → ((x : A) → P x → Q x → R x) → IfOk r R
 if_ok_both P Q R (Ok x) h k both = both x h k
 if_ok_both P Q R (Err e) h k both = tt

@@ -21,6 +21,7 @@ use Rattle.toml.specs.declared.value.Value.{Value}
 use Rattle.toml.specs.Data.{Data, Members, get_member}
 use Rattle.toml.specs.View.{view, members_view}
 use Rattle.text_lines.proofs.Decimals.{one_number}
+use Rattle.plain_laws.proofs.Booleans.{or-false, or-assoc}
 use Rattle.cost_document.specs.Documents.{numbered_name, TellsNumbers}
 use Rattle.cost_document.specs.Marking.{IsNumberOfKey, marked}
 
@@ -97,14 +98,10 @@ marks_none function count all left held long is same = record {
   each = λ number below. rw (is, get_or-replicate count number false false below) (same number);
 }
 
-or_false : (b : Bool) → (b || false) ≡ b
-or_false true = refl
-or_false false = refl
-
 pub marks_all : (function : List ℕ) (count : ℕ) (all left : List Entry) (held : List Bool) → left ≡ [] → Marks function count all left held → TellsNumbers (members_view all) function count held
 marks_all function count all left held none marks = record {
   long = marks.long;
-  each = λ number below. sym (or_false (get_or held number false)) ∙ (rw none at marks.each number below);
+  each = λ number below. sym (or-false (get_or held number false)) ∙ (rw none at marks.each number below);
 }
 
 -- a number is this one, where there is one
@@ -140,7 +137,7 @@ or_true true = refl
 or_true false = refl
 
 get_marked : (held : List Bool) (found : Option ℕ) (other : ℕ) → other < length held → get_or (marked held found) other false ≡ (get_or held other false || is_number found other)
-get_marked held None other below = sym (or_false (get_or held other false))
+get_marked held None other below = sym (or-false (get_or held other false))
 get_marked held (Some number) other below =
     elim (cases_Bool (number == other)) [
       | inl same ↦
@@ -148,12 +145,8 @@ get_marked held (Some number) other below =
           rw (same, is) (get_or-set_same held other true false below ∙ or_true (get_or held other false))
       | inr apart ↦
           let not_is = λ (is : other ≡ number). true≢false (sym ((Decides-eqb number other).1 (sym is)) ∙ apart) in
-          rw apart (get_or-set_other held number other true false not_is ∙ sym (or_false (get_or held other false)))
+          rw apart (get_or-set_other held number other true false not_is ∙ sym (or-false (get_or held other false)))
     ]
-
-or_three : (a b c : Bool) → ((a || b) || c) ≡ (a || (b || c))
-or_three true b c = refl
-or_three false b c = refl
 
 pub marks_one : (function : List ℕ) (count : ℕ) (all left rest : List Entry) (e : Entry) (held : List Bool) (found : Option ℕ) → count < 2 ^ 64 → left ≡ e ∷ rest
     → IsNumberOfKey (string_bytes e.0) function found → Marks function count all left held → Marks function count all rest (marked held found)
@@ -164,7 +157,7 @@ marks_one function count all left rest e held found few is key marks = record {
       let here = number_is function (string_bytes e.0) found number (omega (arith, below, few)) key in
       let now = get_marked held found number (subst (λ n. number < n) (sym marks.long) below) in
       ap (λ m. m || is_key rest name) (now ∙ ap (λ m. get_or held number false || m) here)
-      ∙ or_three (get_or held number false) (bytes_eq name (string_bytes e.0)) (is_key rest name)
+      ∙ or-assoc (get_or held number false) (bytes_eq name (string_bytes e.0)) (is_key rest name)
       ∙ ap (λ m. get_or held number false || m) (sym (is_key_more e rest name) ∙ sym (ap (λ es. is_key es name) is))
       ∙ marks.each number below;
 }

@@ -8,6 +8,7 @@ use Rattle.std.proofs.lemmas.Cmp.{nat_list_cmp_total}
 use Rattle.toml.specs.Data.{Data, Members, no_members, member, get_member}
 use Rattle.cost_document.specs.Documents.{earlier, first_key}
 use Rattle.cost_document.proofs.Reading.{equal_is}
+use Rattle.plain_laws.proofs.Booleans.{and-true}
 
 -- ---- no key fails, so what a key holds does not
 
@@ -49,8 +50,4 @@ same_first_key test other (member key d ms) agree =
 -- the names that are known, against those of all blocks
 pub same_first_unknown : (es : Members) (known named : List ℕ → Bool) → ((key : List ℕ) → known key ≡ (named key && is_some (get_member key es)))
     → first_key (λ key d. not (known key)) es ≡ first_key (λ key d. not (named key)) es
-same_first_unknown es known named is = same_first_key _ _ es (λ key d some. ap not (is key ∙ rw some (and_true (named key))))
-  where
-    and_true : (b : Bool) → (b && true) ≡ b
-    and_true true = refl
-    and_true false = refl
+same_first_unknown es known named is = same_first_key _ _ es (λ key d some. ap not (is key ∙ rw some (and-true (named key))))

@@ -11,6 +11,7 @@ use Rattle.std.specs.Cmp.Lexicographic.{slice_cmp}
 use Rattle.std.proofs.lemmas.Map.Text.{btree_set_updates_text}
 use Rattle.std.proofs.lemmas.Slice.Eq.{bytes_eq-Decides}
 use Rattle.toml.specs.Data.{Members, get_member}
+use Rattle.plain_laws.proofs.Booleans.{or-false}
 
 -- ---- one name
 
@@ -21,10 +22,6 @@ same_bytes xs ys =
       | inr other ↦ other ∙ sym (false_from_ne_true _ (λ same. true≢false (sym ((bytes_eq-Decides xs ys).1 (sym ((bytes_eq-Decides ys xs).0 same))) ∙ other)))
     ]
 
-or_false : (b : Bool) → b ≡ (b || false)
-or_false true = refl
-or_false false = refl
-
 -- a name that has an entry
 pub added : (es : Members) (name key : List ℕ) (was : Bool) → is_some (get_member name es) ≡ true
     → cond (bytes_eq name key) true was ≡ (was || (bytes_eq key name && is_some (get_member key es)))
@@ -33,7 +30,7 @@ added es name key was has =
       | inl same ↦
           let here : is_some (get_member key es) ≡ true = subst (λ k. is_some (get_member k es) ≡ true) (sym ((bytes_eq-Decides key name).0 same)) has in
           rw (same, here) (sym (or_right was true refl))
-      | inr other ↦ rw other (or_false was)
+      | inr other ↦ rw other (sym (or-false was))
     ])
 
 -- a name that has none
@@ -43,8 +40,8 @@ not_added es name key was held is none =
     elim (cases_Bool (bytes_eq key name)) [
       | inl same ↦
           let here : is_some (get_member key es) ≡ false = subst (λ k. is_some (get_member k es) ≡ false) (sym ((bytes_eq-Decides key name).0 same)) (sym is ∙ none) in
-          rw (same, here) (or_false was)
-      | inr other ↦ rw other (or_false was)
+          rw (same, here) (sym (or-false was))
+      | inr other ↦ rw other (sym (or-false was))
     ]
 
 -- what `insert` says

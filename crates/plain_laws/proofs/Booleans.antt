@@ -14,6 +14,10 @@ pub or-false : (b : Bool) → (b || false) ≡ b
 or-false true = refl
 or-false false = refl
 
+pub or-assoc : (a b c : Bool) → ((a || b) || c) ≡ (a || (b || c))
+or-assoc true b c = refl
+or-assoc false b c = refl
+
 pub false_from_not : (b : Bool) → not b ≡ true → b ≡ false
 false_from_not true e = absurd (cc)
 false_from_not false e = refl

@@ -10,6 +10,7 @@ use Rattle.cnf_form.specs.Truth.{literal_true, clause_true, Satisfies}
 use Rattle.c_tree.specs.declared.program.Input.{Input}
 use Rattle.bv_term.specs.declared.op.Op.{Op}
 use Rattle.bv_term.specs.Stores.{Terms, AreTerms as AreTermsOf, FitFrom, input_word, words_from, op_words, tv}
+use Rattle.plain_laws.proofs.Booleans.{or-false}
 use Rattle.bit_circuits.specs.declared.gate.Gate.{Gate}
 use Rattle.bit_circuits.specs.Tidy.{tidy_clauses}
 use Rattle.bit_circuits.specs.Gates.{gates_clauses}
@@ -100,10 +101,6 @@ module _ (inputs : List Bool) (ops : List Op) (conditions : List ℕ) (over : Fi
   unfolding clauses_of gates_of bits_of_terms first
   parts values = ap (λ z. (literal_true values (pos 1) || false) && z) (list_all-append (list_any (literal_true values)) (gates_clauses first gates_of) (tidy_clauses (map (bits_at bits_of_terms) conditions)))
 
-  or_false : (b : Bool) → (b || false) ≡ b
-  or_false true = refl
-  or_false false = refl
-
   first-some : 0 < first
   unfolding first
   first-some = omega arith
@@ -115,7 +112,7 @@ module _ (inputs : List Bool) (ops : List Op) (conditions : List ℕ) (over : Fi
       let all = sym (parts values) ∙ (satisfies values (clauses_of (length inputs) ops conditions)).1 s in
       let one = and_parts (v (pos 1) || false) (formula_true v (gates_clauses first gates_of) && formula_true v (tidy_clauses (map (bits_at bits_of_terms) conditions))) all in
       let rest = and_parts (formula_true v (gates_clauses first gates_of)) (formula_true v (tidy_clauses (map (bits_at bits_of_terms) conditions))) one.1 in
-      let is : v (pos 1) ≡ true = sym (or_false (v (pos 1))) ∙ one.0 in
+      let is : v (pos 1) ≡ true = sym (or-false (v (pos 1))) ∙ one.0 in
       let holds = (gates-true v (Unit {0}) first gates_of first-some (true_literal-of values (Unit {0}) (λ given. is)) scope.0).0 rest.0 in
       (nonzero values is holds).0 rest.1
 
@@ -156,7 +153,7 @@ module _ (inputs : List Bool) (ops : List Op) (conditions : List ℕ) (over : Fi
       let gates = (gates-true v (Unit {0}) first gates_of first-some (true_literal-of values (Unit {0}) (λ given. one)) scope.0).1 holds in
       let last = (nonzero values one holds).1 here in
       (satisfies values (clauses_of (length inputs) ops conditions)).0
-      (parts values ∙ and_from (v (pos 1) || false) (formula_true v (gates_clauses first gates_of) && formula_true v (tidy_clauses (map (bits_at bits_of_terms) conditions))) (or_false (v (pos 1)) ∙ one)
+      (parts values ∙ and_from (v (pos 1) || false) (formula_true v (gates_clauses first gates_of) && formula_true v (tidy_clauses (map (bits_at bits_of_terms) conditions))) (or-false (v (pos 1)) ∙ one)
       (and_from (formula_true v (gates_clauses first gates_of)) (formula_true v (tidy_clauses (map (bits_at bits_of_terms) conditions))) gates last))
 
   pub clauses-fit : (values : List Bool) → FitsInputs inputs (decoded_words inputs values)

@@ -4,6 +4,7 @@ use Rattle.std.specs.List.{list_any}
 use Rattle.std.specs.Int.Bits.{bit_and, bit_or, bit_xor, and_block, or_block, xor_block}
 use Rattle.std.proofs.lemmas.Bool.Decides.{nat_tests}
 use Rattle.bv_term.specs.Words.{flag}
+use Rattle.plain_laws.proofs.Booleans.{or-false, or-assoc}
 use Rattle.bit_circuits.specs.declared.gate.Gate.{Gate}
 use Rattle.bit_circuits.specs.declared.gate.Gate.TheVariants as gates
 use Rattle.bit_circuits.specs.Gates.{gate_value, exclusive_or}
@@ -122,22 +123,14 @@ xor-builds v G n xs ys some bx by same =
 
 -- ---- a bit over a whole word
 
-or_assoc : (a b c : Bool) → ((a || b) || c) ≡ (a || (b || c))
-or_assoc true b c = refl
-or_assoc false b c = refl
-
 pub any-builds : (v : ℤ → Bool) (G : Type 0) (n : ℕ) (c : ℤ) (xs : List ℤ) → 0 < n → IsBelow n c → Below n xs → Builds v G n (any c xs) (IsBit v G (v c || list_any v xs))
 unfolding any
-any-builds v G n c [] some bc bx = done-builds c (record { scope = bc; value = λ given. sym (or_false (v c)) })
-  where
-    or_false : (b : Bool) → (b || false) ≡ b
-    or_false true = refl
-    or_false false = refl
+any-builds v G n c [] some bc bx = done-builds c (record { scope = bc; value = λ given. sym (or-false (v c)) })
 any-builds v G n c (x ∷ xs) some bc bx =
     then-builds _ (gate-builds (gates.Or c x) some (bc, (bx.0, tt))) (λ n1 le1 d pd.
     weaker-builds (any-builds v G n1 d xs (omega arith) pd.scope (Below-later n n1 xs le1 bx.1)) (λ n2 le2 l pl. record {
       scope = pl.scope;
-      value = λ given. pl.value given ∙ ap (λ b. b || list_any v xs) (pd.value given) ∙ or_assoc (v c) (v x) (list_any v xs);
+      value = λ given. pl.value given ∙ ap (λ b. b || list_any v xs) (pd.value given) ∙ or-assoc (v c) (v x) (list_any v xs);
     }))
 
 some_step : (b r : Bool) (x : ℕ) → r ≡ not (x == 0) → (b || r) ≡ not (flag b + 2 * x == 0)
@@ -167,11 +160,7 @@ differ_step false false false x y = grind (arith, nat_tests)
 pub differ-builds : (v : ℤ → Bool) (G : Type 0) (n : ℕ) (c : ℤ) (xs ys : List ℤ) → 0 < n → IsBelow n c → Below n xs → Below n ys → length xs ≡ length ys
     → Builds v G n (differ c xs ys) (IsBit v G (v c || not (word_value v xs == word_value v ys)))
 unfolding differ
-differ-builds v G n c [] [] some bc bx by same = done-builds c (record { scope = bc; value = λ given. sym (or_false (v c)) })
-  where
-    or_false : (b : Bool) → (b || false) ≡ b
-    or_false true = refl
-    or_false false = refl
+differ-builds v G n c [] [] some bc bx by same = done-builds c (record { scope = bc; value = λ given. sym (or-false (v c)) })
 differ-builds v G n c [] (y ∷ ys) some bc bx by same = absurd (omega arith)
 differ-builds v G n c (x ∷ xs) [] some bc bx by same = absurd (omega arith)
 differ-builds v G n c (x ∷ xs) (y ∷ ys) some bc bx by same =

@@ -12,6 +12,7 @@ use Rattle.c_tree.specs.declared.value.Value.{Value}
 use Rattle.c_tree.specs.Meaning.Operators as c
 use Rattle.bv_term.specs.declared.op.Op.TheVariants as op
 use Rattle.bv_term.specs.Scripts.{Always}
+use Rattle.plain_laws.proofs.Booleans.{and-true}
 use Rattle.cond_laws.specs.Judged.{judged_term}
 use Rattle.cond_laws.specs.TermOperators as spec
 use Rattle.cond_laws.proofs.Judging.{Stands, judged_int, stands}
@@ -123,12 +124,8 @@ quotient_of : (x y r d : ℕ) → x < 2 ^ 32 → y < 2 ^ 32 → r ≡ divided_si
 quotient_of x zero r d hx hy er ed = refl
 quotient_of x (suc y) r d hx hy er ed =
     let z : ℤ = int_div (cast_signed w32 x) (cast_signed w32 (suc y)) in
-    let test : (not (d == 0) && true) ≡ nat_lt (mag z) (2 ^ 31) = and_true (not (d == 0)) ∙ (ap not ed ∙ range_test x (suc y) hx hy) in
+    let test : (not (d == 0) && true) ≡ nat_lt (mag z) (2 ^ 31) = and-true (not (d == 0)) ∙ (ap not ed ∙ range_test x (suc y) hx hy) in
     ap (λ b. if b then None else c.int z) (signed_zero y hy) ∙ (judged_int z r (not (d == 0) && true) (λ h. ltb-true (mag z) (2 ^ 31) (sym test ∙ h)) (λ h. test ∙ lt-ltb (mag z) (2 ^ 31) h) (λ h. sym (ap (cast_signed w32) er ∙ to_z-of_z w32 z (record { sfits = h }))) ∙ ap (λ b. if not b && (not (d == 0) && true) then Some (Int (cast_signed w32 r)) else None) (sym (successor_is_not_zero y)))
-  where
-    and_true : (b : Bool) → (b && true) ≡ b
-    and_true true = refl
-    and_true false = refl
 
 after_test : (b : Bool) (u v w : Value) → v ≡ w → c.only_after (if b then Some u else None) v ≡ (if b then Some w else None)
 after_test true u v w e = ap (λ v. Some v) e

@@ -11,6 +11,7 @@ use Rattle.c_tree.specs.Meaning.Values.{of_word}
 use Rattle.bv_term.specs.declared.op.Op.TheVariants as op
 use Rattle.bv_term.specs.Words.{flag, choice as chosen}
 use Rattle.bv_term.specs.Scripts.{Done, ◌>>=◌, Always}
+use Rattle.plain_laws.proofs.Booleans.{and-true}
 use Rattle.cond_laws.specs.Judged.{Judged, judged_term}
 use Rattle.cond_laws.proofs.Judging.{Stands, stands}
 use Rattle.bv_term.specs.Scripts.{put, pure}
@@ -119,11 +120,7 @@ within_is input at e n l el d ed = ed ∙ ap (λ l. flag (nat_lt (at e) l)) el
 
 -- one more condition at the end
 pub hold_last : (at : ℕ → ℕ) (xs : List ℕ) (d : ℕ) → all_hold at (xs ++ d ∷ []) ≡ (all_hold at xs && not (at d == 0))
-hold_last at xs d = hold_append at xs (d ∷ []) ∙ ap (λ b. all_hold at xs && b) (and_true (not (at d == 0)))
-  where
-    and_true : (b : Bool) → (b && true) ≡ b
-    and_true true = refl
-    and_true false = refl
+hold_last at xs d = hold_append at xs (d ∷ []) ∙ ap (λ b. all_hold at xs && b) (and-true (not (at d == 0)))
 
 element_when : (a b : Bool) (f : ℕ → Option Value) (u : Ty) (w n : ℕ) (v z : Value) → option_and_then f (index v) ≡ (if b then Some z else None) → option_and_then f (option_and_then index (if a then Some v else None)) ≡ (if a && b then Some z else None)
 element_when true b f u w n v z e = e
