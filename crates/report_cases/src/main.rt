@@ -5,6 +5,7 @@
 //! - `read ## TEXT`: the report that the text says, after `ok`, or the line at which it leaves the form. Of the report
 //!   the number of block copies and the first bound, each shown value as its bound and its best, and the end;
 //! - `again ## TEXT`: the text of the report that is read, with `@` for each line feed;
+//! - `pieces ## TEXT`: the same, written in pieces;
 //! - `count ## TEXT`: how many shown values the report that is read has.
 #![tactic(auto)]
 

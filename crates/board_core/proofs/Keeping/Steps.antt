@@ -13,6 +13,7 @@ use Rattle.board_core.specs.Machine.{Posted, posted_item, Setup, State, with_ite
 use Rattle.board_core.specs.Kept.{IsSetup, KeptState, CoversOpen, IsAtMostBest}
 use Rattle.board_core.proofs.Lists.{EachOf-weaker}
 use Rattle.board_core.proofs.Places.{SomeOf-put, SomeOf-put_or}
+use Rattle.board_core.proofs.Opening.{paths_within_optimum}
 use Rattle.board_core.proofs.Paths.{opening_is_item, opening_covers}
 
 -- each driven path is covered by an open one of these items, or costs at most best's cost
@@ -37,7 +38,7 @@ kept u s items covered within few = record {
 pub kept_start : (u : Setup) → IsSetup u → KeptState u (start_state u)
 kept_start u h =
     kept u (start_state u)
-    (opening_is_item u.rows.plan u.opening (λ q driven covers. h.opens q driven), tt)
+    (opening_is_item u.rows.plan u.opening (λ q driven covers. paths_within_optimum u.rows.plan u.opening h.formed h.optimum q driven), tt)
     (λ q driven. inl (inl (refl, opening_covers u.rows.plan u.opening h.formed q driven)))
     (omega arith)
     (omega arith)

@@ -1,0 +1,3 @@
+pub mod ShownValues
+pub mod Telling
+pub mod Claims
