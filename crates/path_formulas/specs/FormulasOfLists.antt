@@ -4,6 +4,8 @@ use Rattle.c_tree.specs.declared.program.Program.{Program}
 use Rattle.c_tree.specs.declared.program.Input.{Input}
 use Rattle.c_tree.specs.Meaning.Runs.{fits}
 use Rattle.flow_laws.specs.Driving.{Drives}
+use Rattle.bv_term.specs.Stores.{Terms, AreTerms}
+use Rattle.cond_laws.specs.Conditions.{Cond}
 use Rattle.cond_laws.specs.TermPaths.{TermsOf}
 use Rattle.cnf_form.specs.declared.cnf.Cnf.{Cnf}
 use Rattle.cnf_form.specs.declared.log.Log.{Log}
@@ -24,6 +26,17 @@ IsDrivenByNone p q = (i : Input) → ¬ IsDrivenBy p q i
 pub record IsFormulaOfList (p : Program) (q : List ℕ) (formula : Cnf) : Type 0 where
   pub variables : formula.variables ≡ VariablesOf (TermsOf p q).terms
   pub clauses : formula.clauses ≡ ClausesOf (TermsOf p q).terms (TermsOf p q).conditions
+
+-- the formula has the variables and the clauses of these terms and conditions
+pub record IsFormulaOfTerms (terms : Terms) (conditions : List ℕ) (formula : Cnf) : Type 0 where
+  pub variables : formula.variables ≡ VariablesOf terms
+  pub clauses : formula.clauses ≡ ClausesOf terms conditions
+
+-- other terms, over the inputs of the list: the conditions among them are nonzero exactly where an input drives it
+pub record AreTermsForList (p : Program) (q : List ℕ) (terms : Terms) (conditions : List ℕ) : Type 0 where
+  pub inputs : terms.inputs ≡ (TermsOf p q).terms.inputs
+  pub fit : AreTerms terms
+  pub cond : Cond p q terms conditions
 
 -- the input that an assignment of the formula's variables says
 abbrev pub input_said : Program → List ℕ → List Bool → Input

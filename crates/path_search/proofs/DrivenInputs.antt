@@ -1,14 +1,12 @@
 -- An input drives a list exactly where the words of all its conditions are nonzero.
-use Rattle.std.proofs.Common.{◌≡◌, ◌↔◌, ◌+◌, ℕ, true, false, List, [], ◌∷◌, ◌++◌, length, IsTrue, ℤ, sym, ap, ◌∙◌, subst, arith}
+use Rattle.std.proofs.Common.{◌≡◌, ◌↔◌, ℕ, true, false, List, [], length, IsTrue, ℤ, sym, ap, ◌∙◌, subst, arith}
 use Rattle.std.specs.Prelude.{slice_index}
 use Rattle.std.proofs.lemmas.Bool.{false≢true}
-use Rattle.std.proofs.lemmas.List.{length-append}
 use Rattle.c_tree.specs.declared.program.Program.{Program}
 use Rattle.c_tree.specs.declared.program.Input.{Input}
 use Rattle.c_tree.specs.Meaning.Runs.{fits}
 use Rattle.bv_term.specs.declared.op.Op.{Op}
-use Rattle.bv_term.specs.Words.{op_word}
-use Rattle.bv_term.specs.Stores.{Terms, op_words, words_from, input_word, tv}
+use Rattle.bv_term.specs.Stores.{Terms, op_words, input_word, tv}
 use Rattle.cond_laws.specs.Judged.{all_hold}
 use Rattle.cond_laws.specs.Conditions.{AllBelow, Cond}
 use Rattle.path_formulas.specs.FormulasOfLists.{IsDrivenBy}

@@ -1,2 +1,3 @@
 pub mod DrivenInputs
 pub mod Findings
+pub mod FoldedLists

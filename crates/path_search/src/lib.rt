@@ -1,6 +1,7 @@
 //! Which inputs drive a list of edges: whether one does, and a search for one.
 #![tactic(auto)]
 
+mod asking;
 mod driving;
 mod finding;
 mod formula;
