@@ -1,6 +1,6 @@
 -- A job has one answer, or refusals of one status.
 use Rattle.std.proofs.Common.{◌≡◌, ℕ, List, Option, Some, None, sym, ◌∙◌, ap, subst}
-use Rattle.std.specs.Prelude.{IsSome, IsSomeAnd, option_map}
+use Rattle.std.specs.Prelude.{IsSome, IsSomeAnd, IfSome, option_map, if◌then◌else◌}
 use Rattle.wc_outside.specs.Contents.{Files}
 use Rattle.c_tree.specs.declared.program.Program.{Program}
 use Rattle.c_tree.specs.declared.program.Costs.{Costs}
@@ -21,8 +21,9 @@ use Rattle.front_end.specs.Files.{Source, AreAccepted, IsServed, Refuses}
 use Rattle.front_end.specs.Statuses.{status_of}
 use Rattle.front_end.proofs.InFiles.{one_accepted}
 use Rattle.front_end.proofs.Agreeing.{one_status as one_status_of, not_both}
-use Rattle.squeeze_top.specs.Answers.{bound_line, ipet_lines, run_line, Tells}
-use Rattle.squeeze_top.specs.Jobs.{source, job_input, Give, Served, AreRefused, IsAnswer}
+use Rattle.squeeze_top.specs.Answers.{bound_line, ipet_lines, run_line, Tells, TellsMade}
+use Rattle.squeeze_top.specs.Jobs.{source, job_input, Give, Served, AreRefused, IsTold, IsAnswer}
+use Rattle.squeeze_top.specs.Jobs.IsAnswer.{Told, Made}
 
 -- ---- answers
 
@@ -53,10 +54,37 @@ same_answer Workout p t input s u a b h k = absurd h
 pub moved : (m : Mode) (p q : Program) (t u : Costs) (input : List ℕ) (s : Status) (text : List ℕ) → (p ≡ q) × (t ≡ u) → Tells m p t input s text → Tells m q u input s text
 moved m p q t u input s text same h = subst (λ r. Tells m q r input s text) same.1 (subst (λ r. Tells m r t input s text) same.0 h)
 
-pub one_answer : (job : Job) (told : Option Files) (s u : Status) (a b : List ℕ) → IsSome told → IsAnswer job told s a → IsAnswer job told u b → (s ≡ u) × (a ≡ b)
-one_answer job told s u a b some h k =
+-- ---- answers of made cases
+
+-- texts are given to a job with a file alone
+given_file : (job : Job) (told : Option Files) (p : Program) (t : Costs) → job.file ≡ None → Give job told p t → ⊥
+given_file job told p t none give = subst (λ file. IsSomeAnd (option_map (source job) file) (λ s. AreAccepted s told p t)) none give
+
+same_case : (m : Mode) (job : Job) (s u : Status) (a b : List ℕ) → TellsMade m job s a → TellsMade m job u b → (s ≡ u) × (a ≡ b)
+same_case Make job s u a b h k =
+    let program = h.1.made.program ∙ sym k.1.made.program in
+    let table = h.1.made.costs ∙ sym k.1.made.costs in
+    (h.0 ∙ sym k.0, h.1.chosen ∙ ap (λ x. if job.table then x else h.1.program) table ∙ ap (λ x. if job.table then k.1.table else x) program ∙ sym k.1.chosen)
+same_case Squeeze job s u a b h k = absurd h
+same_case Bound job s u a b h k = absurd h
+same_case Ipet job s u a b h k = absurd h
+same_case Blocks job s u a b h k = absurd h
+same_case Run job s u a b h k = absurd h
+same_case Print job s u a b h k = absurd h
+same_case Workout job s u a b h k = absurd h
+
+-- ---- one answer
+
+one_told : (job : Job) (told : Option Files) (s u : Status) (a b : List ℕ) → IsSome told → IsTold job told s a → IsTold job told u b → (s ≡ u) × (a ≡ b)
+one_told job told s u a b some h k =
     let same = one_given job told h.program k.program h.costs k.costs some h.given k.given in
     same_answer job.mode k.program k.costs job.input s u a b (moved job.mode h.program k.program h.costs k.costs job.input s a same h.tells) k.tells
+
+pub one_answer : (job : Job) (told : Option Files) (s u : Status) (a b : List ℕ) → IsSome told → IsAnswer job told s a → IsAnswer job told u b → (s ≡ u) × (a ≡ b)
+one_answer job told s u a b some (Told h) (Told k) = one_told job told s u a b some h k
+one_answer job told s u a b some (Told h) (Made none k) = absurd (given_file job told h.program h.costs none h.given)
+one_answer job told s u a b some (Made none h) (Told k) = absurd (given_file job told k.program k.costs none k.given)
+one_answer job told s u a b some (Made none h) (Made same k) = same_case job.mode job s u a b h k
 
 ends_whole : (m : Mode) (p : Program) (t : Costs) (input : List ℕ) (s : Status) (text : List ℕ) → Tells m p t input s text → s ≡ Whole
 ends_whole Squeeze p t input s text h = absurd h
@@ -68,9 +96,20 @@ ends_whole Print p t input s text h = h.0
 ends_whole Make p t input s text h = absurd h
 ends_whole Workout p t input s text h = absurd h
 
+made_whole : (m : Mode) (job : Job) (s : Status) (text : List ℕ) → TellsMade m job s text → s ≡ Whole
+made_whole Make job s text h = h.0
+made_whole Squeeze job s text h = absurd h
+made_whole Bound job s text h = absurd h
+made_whole Ipet job s text h = absurd h
+made_whole Blocks job s text h = absurd h
+made_whole Run job s text h = absurd h
+made_whole Print job s text h = absurd h
+made_whole Workout job s text h = absurd h
+
 -- each answer of today ends whole
 pub answered_whole : (job : Job) (told : Option Files) (s : Status) (text : List ℕ) → IsAnswer job told s text → s ≡ Whole
-answered_whole job told s text h = ends_whole job.mode h.program h.costs job.input s text h.tells
+answered_whole job told s text (Told h) = ends_whole job.mode h.program h.costs job.input s text h.tells
+answered_whole job told s text (Made none h) = made_whole job.mode job s text h
 
 -- ---- what is served
 
@@ -86,18 +125,19 @@ has_input Workout p t input s text h = tt
 
 -- texts that are accepted are served, where the input that is asked for is there
 pub served : (job : Job) (file : Option (List ℕ)) (told : Option Files) (p : Program) (t : Costs) → IsSomeAnd (option_map (source job) file) (λ s. AreAccepted s told p t)
-    → HasInput (job_input job.mode job.input) p → IsSomeAnd (option_map (source job) file) (λ s. IsServed s told)
+    → HasInput (job_input job.mode job.input) p → IfSome (option_map (source job) file) (λ s. IsServed s told)
 served job None told p t h input = absurd h
 served job (Some file) told p t h input = record { program = p; costs = t; accepted = h; input = input }
 
 -- what has an answer is served
 pub answered_served : (job : Job) (told : Option Files) (s : Status) (text : List ℕ) → IsAnswer job told s text → Served job told
-answered_served job told s text h = served job job.file told h.program h.costs h.given (has_input job.mode h.program h.costs job.input s text h.tells)
+answered_served job told s text (Told h) = served job job.file told h.program h.costs h.given (has_input job.mode h.program h.costs job.input s text h.tells)
+answered_served job told s text (Made none h) = subst (λ file. IfSome (option_map (source job) file) (λ s. IsServed s told)) (sym none) tt
 
 -- ---- refusals
 
-unrefused : (found : Option Source) (told : Option Files) (refusal : Refusal) → IsSome told → IsSomeAnd found (λ s. IsServed s told) → IsSomeAnd found (λ s. Refuses refusal s told) → ⊥
-unrefused None told refusal some h k = absurd h
+unrefused : (found : Option Source) (told : Option Files) (refusal : Refusal) → IsSome told → IfSome found (λ s. IsServed s told) → IsSomeAnd found (λ s. Refuses refusal s told) → ⊥
+unrefused None told refusal some h k = absurd k
 unrefused (Some s) told refusal some h k = not_both refusal s told some k h
 
 -- what is served is not refused

@@ -13,8 +13,9 @@ use Rattle.word_line.specs.declared.job.Job.{Job}
 use Rattle.front_end.specs.declared.status.Status.{Status}
 use Rattle.front_end.specs.declared.status.Status.TheVariants as status
 use Rattle.front_end.specs.Refusing.{HasInput}
-use Rattle.squeeze_top.specs.Answers.{Tells, IsBoundLine}
+use Rattle.squeeze_top.specs.Answers.{Tells, TellsMade, IsBoundLine}
 use Rattle.squeeze_top.specs.Jobs.{job_input, Give}
+use Rattle.squeeze_top.specs.Jobs.IsAnswer.{Told, Made}
 use Rattle.squeeze_top.specs.Lines.{AreLines, WroteLine, WroteBound}
 use Rattle.squeeze_top.specs.Written.{MayBeWritten, Wrote}
 use Rattle.squeeze_top.specs.Written.MayBeWritten.{Empty, Answer, Line}
@@ -86,6 +87,17 @@ above Print p t input s text line n small h b holds = absurd b
 above Make p t input s text line n small h b holds = absurd h
 above Workout p t input s text line n small h b holds = absurd h
 
+-- the text of a made case prints no bounds
+made_prints_none : (m : Mode) (job : Job) (s : Status) (text line : List ℕ) (n : ℕ) → TellsMade m job s text → IsBoundLine m n line → ⊥
+made_prints_none Make job s text line n h b = b
+made_prints_none Squeeze job s text line n h b = h
+made_prints_none Bound job s text line n h b = h
+made_prints_none Ipet job s text line n h b = h
+made_prints_none Blocks job s text line n h b = h
+made_prints_none Run job s text line n h b = h
+made_prints_none Print job s text line n h b = h
+made_prints_none Workout job s text line n h b = h
+
 -- ---- texts that may be written
 
 no_line : (front l back : List ℕ) (x : ℕ) → [] ≡ front ++ ((x ∷ l) ++ back) → ⊥
@@ -118,7 +130,9 @@ unasked Workout n line input p b = tt
 may_above : (job : Job) (told : Option Files) (text line : List ℕ) (n : ℕ) (p : Program) (t : Costs) → IsSome told → n < 2 ^ 128
     → MayBeWritten job told text → IsBoundLine job.mode n line → Holds text line → Give job told p t → Above p t n
 may_above job told text line n p t some small (Empty e) b holds give = absurd (empty_holds_none job.mode n line b (subst (λ x. Holds x line) e holds))
-may_above job told text line n p t some small (Answer s a) b holds give =
+may_above job told text line n p t some small (Answer s (Made none h)) b holds give =
+    absurd (made_prints_none job.mode job s text line n h b)
+may_above job told text line n p t some small (Answer s (Told a)) b holds give =
     let same = one_given job told a.program p a.costs t some a.given give in
     subst (λ u. Above p u n) same.1 (subst (λ q. Above q a.costs n) same.0 (above job.mode a.program a.costs job.input s text line n small a.tells b holds))
 may_above job told text line n p t some small (Line refusal refused e) b holds give =

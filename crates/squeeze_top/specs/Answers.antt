@@ -1,5 +1,5 @@
 -- What each mode answers, of texts that are accepted: how the tool ends, and the text that is written.
-use Rattle.std.specs.Prelude.{◌≡◌, ◌<◌, ◌≤◌, ◌^◌, ℕ, ◌+◌, IsTrue, List, [], ◌∷◌, ◌++◌, codes, decimal}
+use Rattle.std.specs.Prelude.{◌≡◌, ◌<◌, ◌≤◌, ◌^◌, ℕ, ◌+◌, IsTrue, List, [], ◌∷◌, ◌++◌, if◌then◌else◌, codes, decimal}
 use Rattle.c_tree.specs.declared.unit.Unit.{Unit as Tree}
 use Rattle.c_tree.specs.declared.program.Func.{Func}
 use Rattle.c_tree.specs.declared.program.Program.{Program}
@@ -20,6 +20,8 @@ use Rattle.print_laws.specs.Again.{IsReadAs}
 use Rattle.print_laws.specs.Printed.{printed_program}
 use Rattle.word_line.specs.declared.job.Mode.{Mode}
 use Rattle.word_line.specs.declared.job.Mode.TheVariants.{Squeeze, Bound, Ipet, Blocks, Run, Print, Make, Workout}
+use Rattle.word_line.specs.declared.job.Job.{Job}
+use Rattle.case_maker.specs.Case.{Case}
 use Rattle.front_end.specs.declared.status.Status.{Status}
 use Rattle.front_end.specs.declared.status.Status.TheVariants.{Whole}
 
@@ -82,8 +84,8 @@ pub record TellsProgram (p : Program) (text : List ℕ) : Type 0 where
   pub lines : text ≡ printed_program p
   pub again : (unit : Tree) (entry : List ℕ) → IsSpelled unit → Typed unit entry p → IsReadAs text entry p
 
--- the table of modes: over the program p with the costs t and the text of the input, a mode ends with this status and
--- writes this text. No job asks for a mode that is not built
+-- the table of the modes that ask for texts: over the program p with the costs t and the text of the input, a mode ends
+-- with this status and writes this text. No job asks for a mode that is not built
 abbrev pub Tells : Mode → Program → Costs → List ℕ → Status → List ℕ → Type 0
 Tells Squeeze p t input s text = ⊥
 Tells Bound p t input s text = (s ≡ Whole) × TellsBound p t text
@@ -93,6 +95,18 @@ Tells Run p t input s text = (s ≡ Whole) × TellsRun p t input text
 Tells Print p t input s text = (s ≡ Whole) × TellsProgram p text
 Tells Make p t input s text = ⊥
 Tells Workout p t input s text = ⊥
+
+-- the text of the program of a made case; or that of its table, where the job asks for it
+pub record TellsCase (job : Job) (text : List ℕ) : Type 0 where
+  pub program : List ℕ
+  pub table : List ℕ
+  pub made : Case job.«case» job.size program table
+  pub chosen : text ≡ (if job.table then table else program)
+
+-- the table of the modes that ask for no texts
+abbrev pub TellsMade : Mode → Job → Status → List ℕ → Type 0
+TellsMade Make job s text = (s ≡ Whole) × TellsCase job text
+TellsMade _ job s text = ⊥
 
 -- the lines in which a mode prints a bound
 abbrev pub IsBoundLine : Mode → ℕ → List ℕ → Type 0

@@ -1,5 +1,5 @@
 -- What a job asks of the texts in its files.
-use Rattle.std.specs.Prelude.{ℕ, List, Option, Some, None, option_map, IsSomeAnd}
+use Rattle.std.specs.Prelude.{◌≡◌, ℕ, List, Option, Some, None, option_map, IsSomeAnd, IfSome}
 use Rattle.wc_outside.specs.Contents.{Files}
 use Rattle.c_tree.specs.declared.program.Program.{Program}
 use Rattle.c_tree.specs.declared.program.Costs.{Costs}
@@ -11,7 +11,7 @@ use Rattle.front_end.specs.declared.status.Status.{Status}
 use Rattle.front_end.specs.declared.stop.Halt.{Halt}
 use Rattle.front_end.specs.declared.stop.Halt.TheVariants.{Refused, ReadFault, NoMemory}
 use Rattle.front_end.specs.Files.{Source, AreAccepted, IsServed, Refuses}
-use Rattle.squeeze_top.specs.Answers.{Tells}
+use Rattle.squeeze_top.specs.Answers.{Tells, TellsMade}
 
 -- a run alone asks for an input
 abbrev pub job_input : Mode → List ℕ → Option (List ℕ)
@@ -31,20 +31,25 @@ OfTexts job P = IsSomeAnd (option_map (source job) job.file) P
 abbrev pub Give : Job → Option Files → Program → Costs → Type 0
 Give job told p t = OfTexts job (λ s. AreAccepted s told p t)
 
--- they are accepted, and the input that is asked for is there
+-- they are accepted, and the input that is asked for is there; a job without a file asks for no texts
 abbrev pub Served : Job → Option Files → Type 0
-Served job told = OfTexts job (λ s. IsServed s told)
+Served job told = IfSome (option_map (source job) job.file) (λ s. IsServed s told)
 
 -- they are refused so
 abbrev pub AreRefused : Job → Option Files → Refusal → Type 0
 AreRefused job told refusal = OfTexts job (λ s. Refuses refusal s told)
 
--- the answer to the job: this status, and this text
-pub record IsAnswer (job : Job) (told : Option Files) (status : Status) (text : List ℕ) : Type 0 where
+-- an answer of the job's texts
+pub record IsTold (job : Job) (told : Option Files) (status : Status) (text : List ℕ) : Type 0 where
   pub program : Program
   pub costs : Costs
   pub given : Give job told program costs
   pub tells : Tells job.mode program costs job.input status text
+
+-- the answer to the job: this status, and this text. It is one of texts, or of a made case, which asks for no file
+pub data IsAnswer (job : Job) (told : Option Files) (status : Status) (text : List ℕ) : Type 0 where
+  Told : IsTold job told status text → IsAnswer job told status text
+  Made : job.file ≡ None → TellsMade job.mode job status text → IsAnswer job told status text
 
 -- what is true where there is no answer
 abbrev pub IsHalt : Halt → Job → Option Files → Type 0

@@ -1,9 +1,9 @@
 //! What each mode answers, of texts that are accepted.
 
-ghost use Rattle.std.specs.Prelude.{◌≡◌, ◌<◌, ◌^◌, ◌++◌, IsTrue, IfOk, OnOk};
+ghost use Rattle.std.specs.Prelude.{◌≡◌, ◌≤◌, ◌<◌, ◌^◌, ◌++◌, IsTrue, IfOk, OnOk};
 ghost use Rattle.c_tree.specs.Meaning.Runs as runs;
 ghost use Rattle.c_run.specs.Ends.{end_of_run};
-ghost use Rattle.word_line.specs.Jobs.{is_built};
+ghost use Rattle.word_line.specs.Jobs.{is_built, has_file};
 ghost use Rattle.front_end.specs.declared.status.Status.TheVariants.{Whole};
 ghost use Rattle.front_end.specs.Refusing.{IsInput};
 ghost use Rattle.squeeze_top.specs.Answers as spec;
@@ -12,6 +12,7 @@ ghost use Rattle.squeeze_top.specs.Jobs.{job_input};
 use c_print::print;
 use c_run::{RunEnd, run};
 use c_tree::{Func, Input, NoMemory};
+use case_maker::make;
 use flow_graph::Plan;
 use front_end::{Front, Status};
 use ipet_peak::peak;
@@ -27,9 +28,10 @@ pub(crate) struct Answer {
     pub(crate) text: Vec<u8>,
 }
 
-/// The answer of the job's mode.
+/// The answer of the job's mode over its texts.
 pub(crate) fn answer_of(alloc: Global, job: &Job, front: &Front) -> Result<Answer, NoMemory>
     requires built { IsTrue (is_built job.now.mode) }
+    requires file { IsTrue (has_file job.now.mode) }
     requires input { IsInput (job_input job.now.mode job.now.input) front.now.plan.program front.now.input }
     ensures whole { IfOk result (λ a. a.status ≡ Whole) }
     ensures told { IfOk result (λ a. let plan = front.now.plan in
@@ -47,6 +49,19 @@ pub(crate) fn answer_of(alloc: Global, job: &Job, front: &Front) -> Result<Answe
         Mode::Print => Ok(whole(print(alloc, plan.program())?)),
         Mode::Squeeze | Mode::Make | Mode::Workout => unreachable!(),
     }
+}
+
+/// The answer of a made case: the text of its program; or that of its table, where the job asks for it.
+pub(crate) fn case_answer(alloc: Global, job: &Job) -> Result<Answer, NoMemory>
+    requires some { 1 ≤ job.now.size }
+    requires few { job.now.size ≤ 64 }
+    ensures whole { IfOk result (λ a. a.status ≡ Whole) }
+    ensures told { IfOk result (λ a. spec.TellsCase job.now a.text.items) }
+{
+    let Ok((program, table)) = make(alloc, job.case, job.size) else {
+        return Err(NoMemory);
+    };
+    Ok(whole(if job.table { table } else { program }))
 }
 
 // The answer of a mode whose job is done.

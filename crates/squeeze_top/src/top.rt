@@ -18,7 +18,7 @@ ghost use Rattle.squeeze_top.specs.Jobs.{source, Give, Served, AreRefused, IsAns
 ghost use Rattle.squeeze_top.specs.Lines.{WroteBound};
 ghost use Rattle.squeeze_top.specs.Written.{Wrote, WroteNoJob, words_line};
 
-use crate::answer::{Answer, answer_of};
+use crate::answer::{Answer, answer_of, case_answer};
 use front_end::{Halt, Source, Status, front_end, put_lines, refuse};
 use std::alloc::Global;
 use std::sync::Wait;
@@ -55,11 +55,13 @@ fn answer_to<S: Shelf>(alloc: Global, job: &Job, shelf: &mut S) -> Result<Answer
     ensures counts { Counts result (S.faults shelf.old) (S.faults shelf.new) }
     ensures same { S.contents shelf.new ≡ S.contents shelf.old }
 {
-    let Some(file) = &job.file else {
-        unreachable!();
-    };
-    let front = front_end(alloc, shelf, &source_of(job, file))?;
-    Ok(answer_of(alloc, job, &front)?)
+    match &job.file {
+        Some(file) => {
+            let front = front_end(alloc, shelf, &source_of(job, file))?;
+            Ok(answer_of(alloc, job, &front)?)
+        }
+        None => Ok(case_answer(alloc, job)?),
+    }
 }
 
 // Writes an answer, and tells how the tool ends: as the answer says, where it is written whole.

@@ -1,7 +1,7 @@
 //! What a case has: words, files and a place for what is written.
 
 use case_lines::{CaseFault, bytes_of};
-use std::alloc::Global;
+use std::alloc::{AllocError, Global};
 use wc_outside::{MemShelf, MemSink};
 
 /// How many bytes a write takes where a case does not say it.
@@ -46,12 +46,34 @@ fn numbers(alloc: Global, part: &str) -> Result<Vec<u64>, CaseFault> {
 
 /// The shelf of a case.
 pub fn shelf(alloc: Global, parts: &[&str]) -> Result<MemShelf, CaseFault> {
+    let program = bytes_of(alloc, part(parts, 1))?;
+    let table = bytes_of(alloc, part(parts, 2))?;
+    Ok(shelf_of(
+        alloc,
+        program,
+        table,
+        numbers(alloc, part(parts, 3))?,
+    )?)
+}
+
+/// The shelf with the program `f.c` and the table `t.toml`.
+pub fn shelf_of(
+    alloc: Global,
+    program: Vec<u8>,
+    table: Vec<u8>,
+    fails: Vec<u64>,
+) -> Result<MemShelf, AllocError> {
     let mut files = Vec::new(alloc);
-    for (name, number) in [("f.c", 1), ("t.toml", 2)] {
-        let name = String::from_str(alloc, name)?;
-        files.push((name, bytes_of(alloc, part(parts, number))?))?;
-    }
-    Ok(MemShelf::new(files, numbers(alloc, part(parts, 3))?))
+    files.push((String::from_str(alloc, "f.c")?, program))?;
+    files.push((String::from_str(alloc, "t.toml")?, table))?;
+    Ok(MemShelf::new(files, fails))
+}
+
+/// A sink of which no write fails.
+pub fn whole_sink(alloc: Global) -> Result<MemSink, CaseFault> {
+    MemSink::new(alloc, MOST, Vec::new(alloc))
+        .ok()
+        .ok_or(CaseFault::NoMemory)
 }
 
 /// The sink of a case.

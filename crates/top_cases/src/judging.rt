@@ -1,6 +1,7 @@
 //! What the top call tells of a case.
 
 use crate::case::{part, shelf, sink, words};
+use crate::made::bound_of_made;
 use crate::real::read_of;
 use case_lines::{CaseFault, on_one_line, parts};
 use squeeze_top::{Status, wcet_main};
@@ -30,6 +31,9 @@ fn judged<R: AllocGlobal + Files + Threads + Wait + Sync>(
     if let Some(asked) = line.strip_prefix("read ") {
         return read_of(rt, alloc, asked);
     }
+    if let Some(asked) = line.strip_prefix("made ") {
+        return bound_of_made(rt, alloc, asked);
+    }
     let parts = parts(alloc, line)?;
     let words = words(alloc, part(&parts, 0))?;
     let mut out = sink(alloc, &parts)?;
@@ -53,8 +57,8 @@ fn called<R: Threads + Wait + Sync, S: Shelf>(
     Ok(wcet_main(rt, alloc, &words, shelf, out, &OpenGate))
 }
 
-// The status and what was written, on one line.
-fn told(alloc: Global, status: Status, out: &MemSink) -> Result<String, CaseFault> {
+/// The status and what was written, on one line.
+pub fn told(alloc: Global, status: Status, out: &MemSink) -> Result<String, CaseFault> {
     let text = str::from_utf8(out.bytes()).ok().ok_or(CaseFault::Form)?;
     let line = on_one_line(alloc, text)?;
     Ok(format!(in alloc; "{} {line}", status.code())?)

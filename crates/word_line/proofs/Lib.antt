@@ -1,1 +1,4 @@
-pub mod Wording
+pub mod OneJob
+pub mod Asking
+mod Parsing
+mod Writing

@@ -11,7 +11,7 @@ is_built Ipet = true
 is_built Blocks = true
 is_built Run = true
 is_built Print = true
-is_built Make = false
+is_built Make = true
 is_built Workout = false
 
 -- the modes that are given a file

@@ -1,29 +1,32 @@
--- What the words of the command line ask for.
+-- What the words of the command line ask for: what `clap` finds in them with our command, read as a job.
 use Rattle.std.specs.Prelude.{
   ◌≡◌,
+  ◌≤◌,
   ℕ,
   Bool,
   false,
-  ◌&&◌,
   List,
   [],
-  ◌∷◌,
-  ◌++◌,
-  length,
   Option,
   Some,
   None,
+  is_some,
+  option_and_then,
   unwrap_or,
-  IfSome,
   if◌then◌else◌,
   bytes_eq,
-  ◌==◌,
-  nat_lt,
   codes,
+  decimal,
 }
+use Rattle.std.specs.Option.{option_map_or}
+use Rattle.clap.specs.Walk.{Row, first_of}
+use Rattle.clap.specs.Simple.{matches_of}
+use Rattle.clap.specs.Faults.{fault_of}
 use Rattle.word_line.specs.declared.job.Mode.{Mode}
-use Rattle.word_line.specs.declared.job.Mode.TheVariants.{Bound, Ipet, Blocks, Run, Print}
+use Rattle.word_line.specs.declared.job.Mode.TheVariants.{Bound, Ipet, Blocks, Run, Print, Make}
 use Rattle.word_line.specs.declared.job.Job.{Job}
+use Rattle.word_line.specs.Command.{command}
+use Rattle.word_line.specs.Jobs.{has_file}
 
 -- the modes that are built
 abbrev pub mode_of : List ℕ → Option Mode
@@ -33,56 +36,46 @@ mode_of word =
     else if bytes_eq word (codes "blocks") then Some Blocks
     else if bytes_eq word (codes "run") then Some Run
     else if bytes_eq word (codes "print") then Some Print
+    else if bytes_eq word (codes "make") then Some Make
     else None
 
-abbrev pub begins_with_dash : List ℕ → Bool
-begins_with_dash [] = false
-begins_with_dash (c ∷ cs) = c == 45
+-- the mode that was found, with a file or without one as the mode asks
+pub record IsMode (found : List Row) (mode : Mode) : Type 0 where
+  pub named : option_and_then mode_of (first_of (codes "mode") found) ≡ Some mode
+  pub file : is_some (first_of (codes "file") found) ≡ has_file mode
 
--- a word that is taken for a flag: it begins with `-` and goes on
-abbrev pub is_flag : List ℕ → Bool
-is_flag word = nat_lt 1 (length word) && begins_with_dash word
+-- a number that is written in decimal, without a sign or a leading zero; or, where none is written, its default
+abbrev pub IsWritten : ℕ → Option (List ℕ) → ℕ → Type 0
+IsWritten default None n = n ≡ default
+IsWritten default (Some text) n = text ≡ decimal n
 
-abbrev pub NoDash : List ℕ → Type 0
-NoDash word = begins_with_dash word ≡ false
+-- such a number within its limits
+pub record IsNumber (least most default : ℕ) (value : Option (List ℕ)) (n : ℕ) : Type 0 where
+  pub written : IsWritten default value n
+  pub enough : least ≤ n
+  pub within : n ≤ most
 
-abbrev pub NoFlag : List ℕ → Type 0
-NoFlag word = is_flag word ≡ false
+-- a flag that is found has the value `true`
+abbrev pub has_flag : List ℕ → List Row → Bool
+has_flag name found = option_map_or (λ value. bytes_eq value (codes "true")) (first_of name found) false
 
--- the words for a value with a name, where there is one
-abbrev pub named_words : List ℕ → Option (List ℕ) → List (List ℕ)
-named_words name None = []
-named_words name (Some value) = name ∷ value ∷ []
+-- the job of what was found. An entry that is missing is `main`, and an input that is missing is empty. No words ask
+-- for several workers or for a watch yet
+pub record IsJobOf (found : List Row) (job : Job) : Type 0 where
+  pub mode : IsMode found job.mode
+  pub file : job.file ≡ first_of (codes "file") found
+  pub costs : job.costs ≡ first_of (codes "costs") found
+  pub entry : job.entry ≡ unwrap_or (first_of (codes "entry") found) (codes "main")
+  pub workers : job.workers ≡ 1
+  pub turns : IsNumber 1 16384 4096 (first_of (codes "turns") found) job.turns
+  pub conflicts : IsNumber 1 100000 10000 (first_of (codes "conflicts") found) job.conflicts
+  pub input : job.input ≡ unwrap_or (first_of (codes "input") found) []
+  pub case_number : IsNumber 0 65535 0 (first_of (codes "case") found) job.«case»
+  pub size : IsNumber 1 64 4 (first_of (codes "size") found) job.size
+  pub watch : job.watch ≡ false
+  pub table : job.table ≡ has_flag (codes "table") found
 
--- the job of these words. An entry that is missing is `main`, and an input that is missing is empty
-abbrev pub job_of_words : Mode → List ℕ → Option (List ℕ) → Option (List ℕ) → Option (List ℕ) → Job
-job_of_words mode file costs entry input = record {
-  mode = mode;
-  file = Some file;
-  costs = costs;
-  entry = unwrap_or entry (codes "main");
-  workers = 1;
-  turns = 4096;
-  conflicts = 10000;
-  input = unwrap_or input [];
-  «case» = 0;
-  size = 4;
-  watch = false;
-  table = false;
-}
-
--- the words are those of the job: its mode, its file, and then its table, its entry and its input, each of which may be
--- missing. The file does not begin with `-`, and no value is taken for a flag
+-- a parse of the words does not fail, and the job is that of what it finds
 pub record AskFor (words : List (List ℕ)) (job : Job) : Type 0 where
-  pub word : List ℕ
-  pub mode : Mode
-  pub file : List ℕ
-  pub costs : Option (List ℕ)
-  pub entry : Option (List ℕ)
-  pub input : Option (List ℕ)
-  pub spelled : words ≡ word ∷ file
-      ∷ (named_words (codes "--costs") costs ++ (named_words (codes "--entry") entry ++ named_words (codes "--input")
-      input))
-  pub of_mode : mode_of word ≡ Some mode
-  pub no_flags : NoDash file × IfSome costs NoFlag × IfSome entry NoFlag × IfSome input NoFlag
-  pub of_job : job ≡ job_of_words mode file costs entry input
+  pub parsed : fault_of command words ≡ []
+  pub found : IsJobOf (matches_of command words) job

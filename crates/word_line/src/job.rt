@@ -17,7 +17,7 @@ pub enum Mode {
     Run,
     /// Print it.
     Print,
-    /// Write a made case. It is not built.
+    /// Write a made case.
     Make,
     /// Find the dearest run of a made case. It is not built.
     Workout,

@@ -1,7 +1,9 @@
-//! The words of the command line: `words` reads them as a `Job`. They are read by hand; a mode that is not built is
-//! refused.
+//! The words of the command line: `words` reads them as a `Job`. What stands in them is found by `clap`; a mode that is
+//! not built is refused.
 #![tactic(auto)]
 
+mod command;
+mod found;
 mod job;
 mod name;
 mod reading;

@@ -4,7 +4,6 @@ use Rattle.front_end.specs.declared.status.Status.TheVariants as status
 use Rattle.squeeze_top.specs.Jobs.{Give, IsAnswer}
 use Rattle.squeeze_top.specs.Lines.{WroteBound}
 use Rattle.squeeze_top.proofs.Agreeing.{one_answer}
-use Rattle.squeeze_top.proofs.Asked.{asked_or_not}
 use Rattle.squeeze_top.proofs.Bounds.{bound_holds}
 use Rattle.squeeze_top.proofs.Written.{wrote_nothing}
 use Rattle.squeeze_top.proofs.top.wcet_main.Goals as goal
@@ -14,7 +13,7 @@ use Rattle.squeeze_top.proofs.top.wcet_main.Goals as goal
 pub returns-in-Ok-clause-bounds : goal.returns-in-Ok-clause-bounds
 returns-in-Ok-clause-bounds g c =
     λ job n p t ask some small b give.
-    let same = c.one_job.ensures (map (λ w. w.now) c.args.words.now) job c.in-Ok.job ask c.in-Ok.ensures.asked in
+    let same = c.one_job.ensures.one (map (λ w. w.now) c.args.words.now) job c.in-Ok.job ask c.in-Ok.ensures.asked in
     c.plain_mode.ensures.bounds n p t some small
     (subst (λ j. WroteBound j.mode n (g.K.Sink.written c.args.out.now) (g.K.Sink.written c.plain_mode.new.out))
     same b)
@@ -26,7 +25,7 @@ returns-in-Ok-clause-one_answer g c = λ job. one_answer job (g.S.Shelf.contents
 pub returns-in-Ok-clause-answered : goal.returns-in-Ok-clause-answered
 returns-in-Ok-clause-answered g c =
     λ job s text ask some answer unread unwritten.
-    let same = c.one_job.ensures (map (λ w. w.now) c.args.words.now) job c.in-Ok.job ask c.in-Ok.ensures.asked in
+    let same = c.one_job.ensures.one (map (λ w. w.now) c.args.words.now) job c.in-Ok.job ask c.in-Ok.ensures.asked in
     c.plain_mode.ensures.answered s text some
     (subst (λ j. IsAnswer j (g.S.Shelf.contents c.args.shelf.now) s text) same answer) unread unwritten
 
@@ -60,7 +59,7 @@ returns-in-Err-Refused-clause-refused g c =
 -- ---- nothing was written
 
 pub returns-in-Err-NoMemory-clause-asked : goal.returns-in-Err-NoMemory-clause-asked
-returns-in-Err-NoMemory-clause-asked g c = asked_or_not (map (λ w. w.now) c.args.words.now)
+returns-in-Err-NoMemory-clause-asked g c = c.one_job.ensures.or_none (map (λ w. w.now) c.args.words.now)
 
 pub returns-in-Err-NoMemory-clause-bounds : goal.returns-in-Err-NoMemory-clause-bounds
 returns-in-Err-NoMemory-clause-bounds g c =
