@@ -3,4 +3,3 @@ pub mod Written
 pub mod WholeLines
 pub mod Bounds
 mod BlockLines
-mod Answering

@@ -100,8 +100,8 @@ fn refuse_words<K: Sink>(out: &mut K) -> Status
 ///
 /// The modes are `bound`, which writes the optimum of implicit path enumeration (Li and Malik), which no run exceeds;
 /// `ipet`, which writes how many block copies there are and the optimum; `blocks`, which writes each block with its
-/// cost; `run`, which writes how the run on the input ends; and `print`, which writes the program. Without a table each
-/// block costs 1.
+/// cost; `run`, which writes how the run on the input ends; `print`, which writes the program; and `make`, which reads no
+/// file and writes the program of a made case, or its table. Without a table each block costs 1.
 ///
 /// The order of work, and so of refusals, is: the program's bytes and their size; its tokens; its unit; its names,
 /// kinds and bounds; the input of a run; the table's bytes and their size; the table's costs; the limits of the flat
@@ -168,8 +168,8 @@ pub fn plain_mode<S: Shelf, K: Sink>(alloc: Global, job: &Job, shelf: &mut S, ou
 /// that they are refused, where they ask for none. Want of memory may come before that. `rt` and `gate` are for modes
 /// with workers, of which there is none today; so this call owes no return by its contract.
 ///
-/// The words are `MODE FILE`, and then, where they are given, `--costs NAME`, `--entry NAME` and `--input TEXT`, in
-/// this order. The entry is `main` where none is named, and the input is empty where none is given.
+/// The words are read by `clap` (`word_line`): the mode, its file where it takes one, options and flags. The entry is
+/// `main` where none is named, and the input is empty where none is given.
 pub fn wcet_main<R: Threads + Wait + Sync, S: Shelf, K: Sink, G: Gate + Sync>(
     _rt: &R,
     alloc: Global,

@@ -70,3 +70,8 @@ returns-in-Err-NoMemory-clause-bounds g c =
 
 pub returns-in-Err-NoMemory-clause-one_answer : goal.returns-in-Err-NoMemory-clause-one_answer
 returns-in-Err-NoMemory-clause-one_answer g c = λ job. one_answer job (g.S.Shelf.contents c.args.shelf.now)
+
+pub returns-in-Err-NoMemory-clause-wrote : goal.returns-in-Err-NoMemory-clause-wrote
+returns-in-Err-NoMemory-clause-wrote g c =
+    λ job ask. wrote_nothing job (g.S.Shelf.contents c.args.shelf.now) (g.K.Sink.written c.args.out.now)
+    (g.K.Sink.written c.args.out.now) refl
