@@ -48,12 +48,7 @@ fn numbers(alloc: Global, part: &str) -> Result<Vec<u64>, CaseFault> {
 pub fn shelf(alloc: Global, parts: &[&str]) -> Result<MemShelf, CaseFault> {
     let program = bytes_of(alloc, part(parts, 1))?;
     let table = bytes_of(alloc, part(parts, 2))?;
-    Ok(shelf_of(
-        alloc,
-        program,
-        table,
-        numbers(alloc, part(parts, 3))?,
-    )?)
+    Ok(shelf_of(alloc, program, table, numbers(alloc, part(parts, 3))?)?)
 }
 
 /// The shelf with the program `f.c` and the table `t.toml`.

@@ -17,7 +17,11 @@ pub fn bound_of_made<R: Threads + Wait + Sync>(
 ) -> Result<String, CaseFault> {
     let (case, size) = asked.split_once(' ').ok_or(CaseFault::Form)?;
     let program = made(rt, alloc, &["make", "--case", case, "--size", size])?;
-    let table = made(rt, alloc, &["make", "--table", "--case", case, "--size", size])?;
+    let table = made(
+        rt,
+        alloc,
+        &["make", "--table", "--case", case, "--size", size],
+    )?;
     let mut shelf = shelf_of(alloc, program, table, Vec::new(alloc))?;
     let mut out = whole_sink(alloc)?;
     let words = ["ipet", "f.c", "--costs", "t.toml"];
