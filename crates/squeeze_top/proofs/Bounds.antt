@@ -1,9 +1,9 @@
 -- Each whole line in which a bound was printed is above every run of the program and the costs that the texts give.
-use Rattle.std.proofs.Common.{◌≡◌, ℕ, zero, suc, ◌<◌, ◌^◌, List, [], ◌∷◌, ◌++◌, take, drop, Option, Some, refl, sym, ◌∙◌, ap, subst, arith}
-use Rattle.std.specs.Prelude.{IsSome, option_map, codes}
+use Rattle.std.proofs.Common.{◌≡◌, ℕ, ◌<◌, ◌^◌, List, [], ◌∷◌, ◌++◌, Option, refl, sym, ◌∙◌, ap, subst, arith}
+use Rattle.std.specs.Prelude.{IsSome, codes}
 use Rattle.std.specs.Fmt.{decimal}
 use Rattle.wc_outside.specs.Contents.{Files}
-use Rattle.wc_outside.specs.Growth.{Grew, GrewByPrefix}
+use Rattle.text_lines.specs.Whole.{HasLine}
 use Rattle.c_tree.specs.declared.program.Program.{Program}
 use Rattle.c_tree.specs.declared.program.Costs.{Costs}
 use Rattle.c_tree.specs.Meaning.Claims.{Above}
@@ -11,92 +11,46 @@ use Rattle.word_line.specs.declared.job.Mode.{Mode}
 use Rattle.word_line.specs.declared.job.Mode.TheVariants.{Squeeze, Bound, Ipet, Blocks, Run, Print, Make, Workout}
 use Rattle.word_line.specs.declared.job.Job.{Job}
 use Rattle.front_end.specs.declared.status.Status.{Status}
-use Rattle.front_end.specs.declared.status.Status.TheVariants as status
 use Rattle.front_end.specs.Refusing.{HasInput}
-use Rattle.squeeze_top.specs.Answers.{Tells, TellsMade, IsBoundLine}
+use Rattle.squeeze_top.specs.Answers.{Tells}
 use Rattle.squeeze_top.specs.Jobs.{job_input, Give}
 use Rattle.squeeze_top.specs.Jobs.IsAnswer.{Told, Made}
-use Rattle.squeeze_top.specs.Lines.{AreLines, WroteLine, WroteBound}
+use Rattle.squeeze_top.specs.Lines.{IsReportBound, IsBoundLine, WroteBound}
 use Rattle.squeeze_top.specs.Written.{MayBeWritten, Wrote}
-use Rattle.squeeze_top.specs.Written.MayBeWritten.{Empty, Answer, Line}
+use Rattle.squeeze_top.specs.Written.MayBeWritten.{Empty, Answer, SoFar, Line}
 use Rattle.squeeze_top.proofs.WholeLines.{bound_told, ipet_told}
-use Rattle.squeeze_top.proofs.Agreeing.{one_given, served, served_stands}
-use Rattle.squeeze_top.proofs.Written.{grew_nothing}
-use Rattle.std.proofs.lemmas.List.{append_assoc}
+use Rattle.squeeze_top.proofs.Agreeing.{given_file, one_given, served, served_stands}
+use Rattle.squeeze_top.proofs.Standing.{stands}
+use Rattle.squeeze_top.proofs.Races.{claimed, line_claims, is_line, line_above}
 
--- the text has this line, behind whole lines
-record Holds (text line : List ℕ) : Type 0 where
-  front : List ℕ
-  back : List ℕ
-  is : text ≡ front ++ (line ++ back)
-  lines : AreLines front
+-- ---- of a report
 
--- ---- what was written holds the line
-
-cancel : (a b c : List ℕ) → Some (a ++ b) ≡ Some (a ++ c) → b ≡ c
-cancel a b c h = behind a (from_some (a ++ b) (a ++ c) h)
-  where
-    from_some : (x y : List ℕ) → Some x ≡ Some y → x ≡ y
-    from_some x y e = cc
-
-    behind : (a : List ℕ) → a ++ b ≡ a ++ c → b ≡ c
-    behind [] e = e
-    behind (x ∷ a) e = let tail : a ++ b ≡ a ++ c = cc in behind a tail
-
-held : (old new : Option (List ℕ)) (text line : List ℕ) → Grew old new text → WroteLine old new line → Holds text line
-held old new text line grew w = record {
-  front = w.front;
-  back = w.back;
-  is = cancel w.before text (w.front ++ (line ++ w.back)) (sym (grew ∙ ap (option_map (λ b. b ++ text)) w.told) ∙ w.written);
-  lines = w.lines;
-}
-
-take_drop : (n : ℕ) (text : List ℕ) → take n text ++ drop n text ≡ text
-take_drop zero text = refl
-take_drop (suc n) [] = refl
-take_drop (suc n) (x ∷ text) = ap (λ l. x ∷ l) (take_drop n text)
-
-held_in_part : (old new : Option (List ℕ)) (text line : List ℕ) → GrewByPrefix old new text → WroteLine old new line → Holds text line
-held_in_part old new text line part w =
-    let h = held old new (take part.count text) line part.grew w in
-    record {
-      front = h.front;
-      back = h.back ++ drop part.count text;
-      is = sym (take_drop part.count text) ∙ ap (λ l. l ++ drop part.count text) h.is ∙ append_assoc h.front (line ++ h.back) (drop part.count text)
-          ∙ ap (λ l. h.front ++ l) (append_assoc line h.back (drop part.count text));
-      lines = h.lines;
-    }
+report_above : (job : Job) (told : Option Files) (text line : List ℕ) (n : ℕ) (p : Program) (t : Costs) → IsSome told → n < 2 ^ 128 → job.mode ≡ Squeeze
+    → MayBeWritten job told text → IsReportBound n line → HasLine text line → Give job told p t → Above p t n
+report_above job told text line n p t some small squeeze may b has give =
+    let is = is_line b.of_report n small b.bound in
+    line_above b.of_report n p t b.bound
+    (claimed _ job told p t text some squeeze give may (line_claims text b.of_report is (subst (λ l. HasLine text l) b.is has)))
 
 -- ---- what an answer holds
 
 told_bound : (p : Program) (t : Costs) (m n : ℕ) → m ≡ n → Above p t m → Above p t n
 told_bound p t m n same above = subst (Above p t) same above
 
-above : (m : Mode) (p : Program) (t : Costs) (input : List ℕ) (s : Status) (text line : List ℕ) (n : ℕ) → n < 2 ^ 128
-    → Tells m p t input s text → IsBoundLine m n line → Holds text line → Above p t n
-above Squeeze p t input s text line n small h b holds = absurd h
-above Bound p t input s text line n small h b holds =
-    told_bound p t h.1.bound n (bound_told h.1.bound n holds.front holds.back h.1.fits small holds.lines
-    (sym h.1.line ∙ holds.is ∙ ap (λ l. holds.front ++ (l ++ holds.back)) b)) h.1.above
-above Ipet p t input s text line n small h b holds =
-    told_bound p t h.1.bound n (ipet_told _ h.1.bound n holds.front holds.back (omega (arith, h.1.few)) h.1.fits small holds.lines
-    (sym h.1.lines ∙ holds.is ∙ ap (λ l. holds.front ++ (l ++ holds.back)) b)) h.1.above
-above Blocks p t input s text line n small h b holds = absurd b
-above Run p t input s text line n small h b holds = absurd b
-above Print p t input s text line n small h b holds = absurd b
-above Make p t input s text line n small h b holds = absurd h
-above Workout p t input s text line n small h b holds = absurd h
-
--- the text of a made case prints no bounds
-made_prints_none : (m : Mode) (job : Job) (s : Status) (text line : List ℕ) (n : ℕ) → TellsMade m job s text → IsBoundLine m n line → ⊥
-made_prints_none Make job s text line n h b = b
-made_prints_none Squeeze job s text line n h b = h
-made_prints_none Bound job s text line n h b = h
-made_prints_none Ipet job s text line n h b = h
-made_prints_none Blocks job s text line n h b = h
-made_prints_none Run job s text line n h b = h
-made_prints_none Print job s text line n h b = h
-made_prints_none Workout job s text line n h b = h
+above : (m : Mode) (job : Job) (p : Program) (t : Costs) (s : Status) (text line : List ℕ) (n : ℕ) → n < 2 ^ 128 → (m ≡ Squeeze → ⊥)
+    → Tells m job p t s text → IsBoundLine m n line → HasLine text line → Above p t n
+above Squeeze job p t s text line n small other h b has = absurd (other refl)
+above Bound job p t s text line n small other h b has =
+    told_bound p t h.1.bound n (bound_told h.1.bound n has.front has.back h.1.fits small has.lines
+    (sym h.1.line ∙ has.is ∙ ap (λ l. has.front ++ (l ++ has.back)) b)) h.1.above
+above Ipet job p t s text line n small other h b has =
+    told_bound p t h.1.bound n (ipet_told _ h.1.bound n has.front has.back (omega (arith, h.1.few)) h.1.fits small has.lines
+    (sym h.1.lines ∙ has.is ∙ ap (λ l. has.front ++ (l ++ has.back)) b)) h.1.above
+above Blocks job p t s text line n small other h b has = absurd b
+above Run job p t s text line n small other h b has = absurd b
+above Print job p t s text line n small other h b has = absurd b
+above Make job p t s text line n small other h b has = absurd b
+above Workout job p t s text line n small other h b has = absurd b
 
 -- ---- texts that may be written
 
@@ -104,17 +58,17 @@ no_line : (front l back : List ℕ) (x : ℕ) → [] ≡ front ++ ((x ∷ l) ++ 
 no_line [] l back x h = absurd (cc)
 no_line (y ∷ front) l back x h = absurd (cc)
 
-empty_holds_none : (m : Mode) (n : ℕ) (line : List ℕ) → IsBoundLine m n line → Holds [] line → ⊥
-empty_holds_none Bound n line b holds =
-    no_line holds.front (codes "ound " ++ decimal n ++ codes "\n") holds.back 98 (holds.is ∙ ap (λ l. holds.front ++ (l ++ holds.back)) b)
-empty_holds_none Ipet n line b holds =
-    no_line holds.front (codes "pet " ++ decimal n ++ codes "\n") holds.back 105 (holds.is ∙ ap (λ l. holds.front ++ (l ++ holds.back)) b)
-empty_holds_none Squeeze n line b holds = b
-empty_holds_none Blocks n line b holds = b
-empty_holds_none Run n line b holds = b
-empty_holds_none Print n line b holds = b
-empty_holds_none Make n line b holds = b
-empty_holds_none Workout n line b holds = b
+empty_has_none : (m : Mode) (n : ℕ) (line : List ℕ) → (m ≡ Squeeze → ⊥) → IsBoundLine m n line → HasLine [] line → ⊥
+empty_has_none Bound n line other b has =
+    no_line has.front (codes "ound " ++ decimal n ++ codes "\n") has.back 98 (has.is ∙ ap (λ l. has.front ++ (l ++ has.back)) b)
+empty_has_none Ipet n line other b has =
+    no_line has.front (codes "pet " ++ decimal n ++ codes "\n") has.back 105 (has.is ∙ ap (λ l. has.front ++ (l ++ has.back)) b)
+empty_has_none Squeeze n line other b has = other refl
+empty_has_none Blocks n line other b has = b
+empty_has_none Run n line other b has = b
+empty_has_none Print n line other b has = b
+empty_has_none Make n line other b has = b
+empty_has_none Workout n line other b has = b
 
 -- a mode that prints bounds asks for no input
 unasked : (m : Mode) (n : ℕ) (line input : List ℕ) (p : Program) → IsBoundLine m n line → HasInput (job_input m input) p
@@ -127,34 +81,35 @@ unasked Print n line input p b = tt
 unasked Make n line input p b = tt
 unasked Workout n line input p b = tt
 
-may_above : (job : Job) (told : Option Files) (text line : List ℕ) (n : ℕ) (p : Program) (t : Costs) → IsSome told → n < 2 ^ 128
-    → MayBeWritten job told text → IsBoundLine job.mode n line → Holds text line → Give job told p t → Above p t n
-may_above job told text line n p t some small (Empty e) b holds give = absurd (empty_holds_none job.mode n line b (subst (λ x. Holds x line) e holds))
-may_above job told text line n p t some small (Answer s (Made none h)) b holds give =
-    absurd (made_prints_none job.mode job s text line n h b)
-may_above job told text line n p t some small (Answer s (Told a)) b holds give =
+may_above : (job : Job) (told : Option Files) (text line : List ℕ) (n : ℕ) (p : Program) (t : Costs) → IsSome told → n < 2 ^ 128 → (job.mode ≡ Squeeze → ⊥)
+    → MayBeWritten job told text → IsBoundLine job.mode n line → HasLine text line → Give job told p t → Above p t n
+may_above job told text line n p t some small other (Empty e) b has give =
+    absurd (empty_has_none job.mode n line other b (subst (λ x. HasLine x line) e has))
+may_above job told text line n p t some small other (Answer s (Told a)) b has give =
     let same = one_given job told a.program p a.costs t some a.given give in
-    subst (λ u. Above p u n) same.1 (subst (λ q. Above q a.costs n) same.0 (above job.mode a.program a.costs job.input s text line n small a.tells b holds))
-may_above job told text line n p t some small (Line refusal refused e) b holds give =
+    subst (λ u. Above p u n) same.1 (subst (λ q. Above q a.costs n) same.0 (above job.mode job a.program a.costs s text line n small other a.tells b has))
+may_above job told text line n p t some small other (Answer s (Made none h)) b has give = absurd (given_file job told p t none give)
+may_above job told text line n p t some small other (SoFar h) b has give = absurd (other h.squeezes)
+may_above job told text line n p t some small other (Line refusal refused e) b has give =
     absurd (served_stands job told refusal some (served job job.file told p t give (unasked job.mode n line job.input p b)) refused)
 
--- ---- by the status
+-- ---- by the mode
+
+by_mode : (m : Mode) (job : Job) (told : Option Files) (text line : List ℕ) (n : ℕ) (p : Program) (t : Costs) → m ≡ job.mode → IsSome told → n < 2 ^ 128
+    → MayBeWritten job told text → IsBoundLine m n line → HasLine text line → Give job told p t → Above p t n
+by_mode Squeeze job told text line n p t is some small may b has give = report_above job told text line n p t some small (sym is) may b has give
+by_mode Bound job told text line n p t is some small may b has give =
+    may_above job told text line n p t some small (λ e. absurd (cc)) may (subst (λ (m : Mode). IsBoundLine m n line) is b) has give
+by_mode Ipet job told text line n p t is some small may b has give =
+    may_above job told text line n p t some small (λ e. absurd (cc)) may (subst (λ (m : Mode). IsBoundLine m n line) is b) has give
+by_mode Blocks job told text line n p t is some small may b has give = absurd b
+by_mode Run job told text line n p t is some small may b has give = absurd b
+by_mode Print job told text line n p t is some small may b has give = absurd b
+by_mode Make job told text line n p t is some small may b has give = absurd b
+by_mode Workout job told text line n p t is some small may b has give = absurd b
 
 pub bound_holds : (s : Status) (job : Job) (told : Option Files) (old new : Option (List ℕ)) (n : ℕ) (p : Program) (t : Costs) → IsSome told → n < 2 ^ 128
     → Wrote s job told old new → WroteBound job.mode n old new → Give job told p t → Above p t n
-bound_holds status.Whole job told old new n p t some small w b give =
-    may_above job told w.text b.line n p t some small (Answer status.Whole w.answer) b.bound (held old new w.text b.line w.written b.wrote) give
-bound_holds status.Inexact job told old new n p t some small w b give =
-    may_above job told w.text b.line n p t some small (Answer status.Inexact w.answer) b.bound (held old new w.text b.line w.written b.wrote) give
-bound_holds status.Words job told old new n p t some small w b give =
-    may_above job told _ b.line n p t some small (Line w.refusal w.refused refl) b.bound (held old new _ b.line w.written b.wrote) give
-bound_holds status.Program job told old new n p t some small w b give =
-    may_above job told _ b.line n p t some small (Line w.refusal w.refused refl) b.bound (held old new _ b.line w.written b.wrote) give
-bound_holds status.Costs job told old new n p t some small w b give =
-    may_above job told _ b.line n p t some small (Line w.refusal w.refused refl) b.bound (held old new _ b.line w.written b.wrote) give
-bound_holds status.ReadFault job told old new n p t some small w b give =
-    may_above job told [] b.line n p t some small (Empty refl) b.bound (held old new [] b.line (grew_nothing old new w) b.wrote) give
-bound_holds status.WriteFault job told old new n p t some small w b give =
-    may_above job told w.text b.line n p t some small w.may b.bound (held_in_part old new w.text b.line w.written b.wrote) give
-bound_holds status.NoMemory job told old new n p t some small w b give =
-    may_above job told w.text b.line n p t some small w.may b.bound (held_in_part old new w.text b.line w.written b.wrote) give
+bound_holds s job told old new n p t some small w b give =
+    let there = stands s job told old new b.line w b.wrote in
+    by_mode job.mode job told there.text b.line n p t refl some small there.may b.bound there.has give

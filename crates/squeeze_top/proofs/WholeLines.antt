@@ -5,7 +5,7 @@ use Rattle.std.specs.Fmt.{decimal}
 use Rattle.std.specs.Str.Parse.{digits_value}
 use Rattle.std.proofs.lemmas.Fmt.{decimal_by_steps_wide, decimal_is_IsNumeral_wide}
 use Rattle.squeeze_top.specs.Answers.{bound_line, ipet_line, ipet_lines}
-use Rattle.squeeze_top.specs.Lines.{AreLines}
+use Rattle.text_lines.specs.Whole.{AreWholeLines}
 use Rattle.std.proofs.lemmas.List.{append_assoc}
 
 -- ---- bytes without a line feed
@@ -51,7 +51,7 @@ up_to_feed (d ∷ w) (c ∷ v) a b one other same =
 -- ---- whole lines
 
 -- of a text that is one line
-one_line : (w v front rest : List ℕ) → NoFeed w → NoFeed v → AreLines front → w ++ 10 ∷ [] ≡ front ++ (v ++ 10 ∷ rest) → w ≡ v
+one_line : (w v front rest : List ℕ) → NoFeed w → NoFeed v → AreWholeLines front → w ++ 10 ∷ [] ≡ front ++ (v ++ 10 ∷ rest) → w ≡ v
 one_line w v front rest one other (inl e) same = up_to_feed w v [] rest one other (same ∙ ap (λ f. f ++ (v ++ 10 ∷ rest)) e)
 one_line w v front rest one other (inr e) same =
     later (behind_feed w e.0 [] (v ++ 10 ∷ rest) one (same ∙ ap (λ f. f ++ (v ++ 10 ∷ rest)) e.1 ∙ append_assoc e.0 (10 ∷ []) (v ++ 10 ∷ rest)))
@@ -61,7 +61,7 @@ one_line w v front rest one other (inr e) same =
     later (inr h) = absurd (nothing_ends h.0 (v ++ 10 ∷ rest) (sym h.1))
 
 -- of a text that is two lines
-two_lines : (w u v front rest : List ℕ) → NoFeed w → NoFeed u → NoFeed v → AreLines front
+two_lines : (w u v front rest : List ℕ) → NoFeed w → NoFeed u → NoFeed v → AreWholeLines front
     → w ++ 10 ∷ (u ++ 10 ∷ []) ≡ front ++ (v ++ 10 ∷ rest) → (w ≡ v) ⊎ (u ≡ v)
 two_lines w u v front rest one two other (inl e) same = inl (up_to_feed w v (u ++ 10 ∷ []) rest one other (same ∙ ap (λ f. f ++ (v ++ 10 ∷ rest)) e))
 two_lines w u v front rest one two other (inr e) same =
@@ -90,7 +90,7 @@ bound_feedless : NoFeed (codes "bound ")
 bound_feedless = ((λ e. cc), ((λ e. cc), ((λ e. cc), ((λ e. cc), ((λ e. cc), ((λ e. cc), tt))))))
 
 -- the one whole line of the text of a bound is that of the bound
-pub bound_told : (m n : ℕ) (front rest : List ℕ) → m < 2 ^ 128 → n < 2 ^ 128 → AreLines front → bound_line m ≡ front ++ (bound_line n ++ rest) → m ≡ n
+pub bound_told : (m n : ℕ) (front rest : List ℕ) → m < 2 ^ 128 → n < 2 ^ 128 → AreWholeLines front → bound_line m ≡ front ++ (bound_line n ++ rest) → m ≡ n
 bound_told m n front rest small_m small_n lines same =
     let w = codes "bound " ++ decimal m in
     let v = codes "bound " ++ decimal n in
@@ -110,7 +110,7 @@ split_lines copies m = ap (λ l. l ++ codes "\n") (append_assoc (codes "blocks "
     ∙ append_assoc (codes "blocks " ++ decimal copies) (codes "\nipet " ++ decimal m) (codes "\n")
 
 -- the line of a bound of the two lines of block copies and a bound is that of the bound
-pub ipet_told : (copies m n : ℕ) (front rest : List ℕ) → copies < 2 ^ 128 → m < 2 ^ 128 → n < 2 ^ 128 → AreLines front
+pub ipet_told : (copies m n : ℕ) (front rest : List ℕ) → copies < 2 ^ 128 → m < 2 ^ 128 → n < 2 ^ 128 → AreWholeLines front
     → ipet_lines copies m ≡ front ++ (ipet_line n ++ rest) → m ≡ n
 ipet_told copies m n front rest small small_m small_n lines same =
     let w = codes "blocks " ++ decimal copies in

@@ -1,5 +1,6 @@
 -- What each mode answers, of texts that are accepted: how the tool ends, and the text that is written.
-use Rattle.std.specs.Prelude.{◌≡◌, ◌<◌, ◌≤◌, ◌^◌, ℕ, ◌+◌, IsTrue, List, [], ◌∷◌, ◌++◌, if◌then◌else◌, codes, decimal}
+use Rattle.std.specs.Prelude.{◌≡◌, ◌<◌, ◌≤◌, ◌^◌, ℕ, ◌+◌, IsTrue, false, List, [], ◌∷◌, ◌++◌, Option, Some}
+use Rattle.std.specs.Prelude.{if◌then◌else◌, codes, decimal}
 use Rattle.c_tree.specs.declared.unit.Unit.{Unit as Tree}
 use Rattle.c_tree.specs.declared.program.Func.{Func}
 use Rattle.c_tree.specs.declared.program.Program.{Program}
@@ -18,12 +19,19 @@ use Rattle.c_run.specs.Ends.{end_of_run}
 use Rattle.c_input.specs.InputTexts.{input_text}
 use Rattle.print_laws.specs.Again.{IsReadAs}
 use Rattle.print_laws.specs.Printed.{printed_program}
+use Rattle.race_item.specs.declared.region.Limits.{Limits}
+use Rattle.board_core.specs.declared.event.End.{End}
+use Rattle.board_core.specs.declared.event.End.TheVariants.{Done}
+use Rattle.board_core.specs.Boards.{BoardOf}
+use Rattle.report_text.specs.declared.report.Report.{Report}
+use Rattle.report_text.specs.Texts.{report_text}
+use Rattle.race_report.specs.Telling as race
 use Rattle.word_line.specs.declared.job.Mode.{Mode}
 use Rattle.word_line.specs.declared.job.Mode.TheVariants.{Squeeze, Bound, Ipet, Blocks, Run, Print, Make, Workout}
 use Rattle.word_line.specs.declared.job.Job.{Job}
 use Rattle.case_maker.specs.Case.{Case}
 use Rattle.front_end.specs.declared.status.Status.{Status}
-use Rattle.front_end.specs.declared.status.Status.TheVariants.{Whole}
+use Rattle.front_end.specs.declared.status.Status.TheVariants.{Whole, Inexact}
 
 abbrev pub bound_line : ℕ → List ℕ
 bound_line n = codes "bound " ++ decimal n ++ codes "\n"
@@ -84,17 +92,36 @@ pub record TellsProgram (p : Program) (text : List ℕ) : Type 0 where
   pub lines : text ≡ printed_program p
   pub again : (unit : Tree) (entry : List ℕ) → IsSpelled unit → Typed unit entry p → IsReadAs text entry p
 
--- the table of the modes that ask for texts: over the program p with the costs t and the text of the input, a mode ends
--- with this status and writes this text. No job asks for a mode that is not built
-abbrev pub Tells : Mode → Program → Costs → List ℕ → Status → List ℕ → Type 0
-Tells Squeeze p t input s text = ⊥
-Tells Bound p t input s text = (s ≡ Whole) × TellsBound p t text
-Tells Ipet p t input s text = (s ≡ Whole) × TellsPeak p t text
-Tells Blocks p t input s text = (s ≡ Whole) × (text ≡ block_lines p.funcs t.by_func)
-Tells Run p t input s text = (s ≡ Whole) × TellsRun p t input text
-Tells Print p t input s text = (s ≡ Whole) × TellsProgram p text
-Tells Make p t input s text = ⊥
-Tells Workout p t input s text = ⊥
+-- the limits of a race
+abbrev pub limits_of : Job → Limits
+limits_of job = record { turns = job.turns; conflicts = job.conflicts }
+
+-- how the tool ends where a race ends so
+abbrev pub status_of_end : Option End → Status
+status_of_end (Some Done) = Whole
+status_of_end _ = Inexact
+
+-- the text is that of a report that tells some race of the program within these limits, which nobody watches, and the
+-- status is that of its end
+pub record TellsRace (limits : Limits) (p : Program) (t : Costs) (s : Status) (text : List ℕ) : Type 0 where
+  pub board : BoardOf
+  pub raced : race.IsRaceOf p t limits board
+  pub report : Report
+  pub tells : race.Tells false board report
+  pub ends : s ≡ status_of_end (race.race_end board)
+  pub lines : text ≡ report_text report
+
+-- the table of the modes that ask for texts: over the program p with the costs t, a mode ends with this status and
+-- writes this text. No job asks for a mode that is not built
+abbrev pub Tells : Mode → Job → Program → Costs → Status → List ℕ → Type 0
+Tells Squeeze job p t s text = TellsRace (limits_of job) p t s text
+Tells Bound job p t s text = (s ≡ Whole) × TellsBound p t text
+Tells Ipet job p t s text = (s ≡ Whole) × TellsPeak p t text
+Tells Blocks job p t s text = (s ≡ Whole) × (text ≡ block_lines p.funcs t.by_func)
+Tells Run job p t s text = (s ≡ Whole) × TellsRun p t job.input text
+Tells Print job p t s text = (s ≡ Whole) × TellsProgram p text
+Tells Make job p t s text = ⊥
+Tells Workout job p t s text = ⊥
 
 -- the text of the program of a made case; or that of its table, where the job asks for it
 pub record TellsCase (job : Job) (text : List ℕ) : Type 0 where
@@ -107,9 +134,3 @@ pub record TellsCase (job : Job) (text : List ℕ) : Type 0 where
 abbrev pub TellsMade : Mode → Job → Status → List ℕ → Type 0
 TellsMade Make job s text = (s ≡ Whole) × TellsCase job text
 TellsMade _ job s text = ⊥
-
--- the lines in which a mode prints a bound
-abbrev pub IsBoundLine : Mode → ℕ → List ℕ → Type 0
-IsBoundLine Bound n line = line ≡ bound_line n
-IsBoundLine Ipet n line = line ≡ ipet_line n
-IsBoundLine _ n line = ⊥

@@ -44,7 +44,7 @@ pub record IsTold (job : Job) (told : Option Files) (status : Status) (text : Li
   pub program : Program
   pub costs : Costs
   pub given : Give job told program costs
-  pub tells : Tells job.mode program costs job.input status text
+  pub tells : Tells job.mode job program costs status text
 
 -- the answer to the job: this status, and this text. It is one of texts, or of a made case, which asks for no file
 pub data IsAnswer (job : Job) (told : Option Files) (status : Status) (text : List ℕ) : Type 0 where

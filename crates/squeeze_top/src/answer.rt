@@ -3,7 +3,7 @@
 ghost use Rattle.std.specs.Prelude.{◌≡◌, ◌≤◌, ◌<◌, ◌^◌, ◌++◌, IsTrue, IfOk, OnOk};
 ghost use Rattle.c_tree.specs.Meaning.Runs as runs;
 ghost use Rattle.c_run.specs.Ends.{end_of_run};
-ghost use Rattle.word_line.specs.Jobs.{is_built, has_file};
+ghost use Rattle.word_line.specs.Jobs.{is_plain, has_file};
 ghost use Rattle.front_end.specs.declared.status.Status.TheVariants.{Whole};
 ghost use Rattle.front_end.specs.Refusing.{IsInput};
 ghost use Rattle.squeeze_top.specs.Answers as spec;
@@ -30,12 +30,12 @@ pub(crate) struct Answer {
 
 /// The answer of the job's mode over its texts.
 pub(crate) fn answer_of(alloc: Global, job: &Job, front: &Front) -> Result<Answer, NoMemory>
-    requires built { IsTrue (is_built job.now.mode) }
+    requires plain { IsTrue (is_plain job.now.mode) }
     requires file { IsTrue (has_file job.now.mode) }
     requires input { IsInput (job_input job.now.mode job.now.input) front.now.plan.program front.now.input }
     ensures whole { IfOk result (λ a. a.status ≡ Whole) }
     ensures told { IfOk result (λ a. let plan = front.now.plan in
-        spec.Tells job.now.mode plan.program plan.costs job.now.input a.status a.text.items) }
+        spec.Tells job.now.mode job.now plan.program plan.costs a.status a.text.items) }
 {
     let plan = &front.plan;
     match job.mode {

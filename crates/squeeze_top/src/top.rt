@@ -1,85 +1,34 @@
 //! The top call.
 
-ghost use Rattle.std.specs.Prelude.{◌≡◌, ◌≢◌, ◌≤◌, ◌<◌, ◌^◌, ◌⊎◌, List, ℕ, map, IfOk, IfErr, IsSome};
+ghost use Rattle.std.specs.Prelude.{◌≡◌, ◌≢◌, ◌≤◌, ◌<◌, ◌^◌, ◌⊎◌, List, ℕ, IsTrue, map, IsSome};
 ghost use Rattle.wc_outside.specs.Causes.{Rose};
-ghost use Rattle.wc_outside.specs.Growth.{Grew, GrewByPrefix};
+ghost use Rattle.wc_outside.specs.Growth.{Grew};
 ghost use Rattle.c_tree.specs.declared.program.Program.{Program as Tree};
 ghost use Rattle.c_tree.specs.declared.program.Costs.{Costs as Table};
-ghost use Rattle.c_tree.specs.Meaning.Claims.{Above};
+ghost use Rattle.c_tree.specs.declared.program.Input.{Input};
+ghost use Rattle.c_tree.specs.Meaning.Claims.{Above, Tight, NoRun};
+ghost use Rattle.c_input.specs.InputTexts.{HasText};
+ghost use Rattle.text_lines.specs.Cutting.{HasNoFeed};
+ghost use Rattle.race_report.specs.Claims.{IsReached};
 ghost use Rattle.word_line.specs.declared.job.Job.{Job};
-ghost use Rattle.word_line.specs.Jobs.{IsJob};
+ghost use Rattle.word_line.specs.declared.job.Mode.{Mode};
+ghost use Rattle.word_line.specs.Jobs.{IsJob, is_plain};
 ghost use Rattle.word_line.specs.Words.{AskFor};
 ghost use Rattle.front_end.specs.declared.refusal.Refusal.{Refusal};
 ghost use Rattle.front_end.specs.declared.status.Status.{Status};
-ghost use Rattle.front_end.specs.Files as files;
-ghost use Rattle.front_end.specs.Halts.{Counts};
 ghost use Rattle.front_end.specs.Statuses.{status_of};
-ghost use Rattle.squeeze_top.specs.Jobs.{source, Give, Served, AreRefused, IsAnswer, IsHalt};
-ghost use Rattle.squeeze_top.specs.Lines.{WroteBound};
-ghost use Rattle.squeeze_top.specs.Written.{Wrote, WroteNoJob, words_line};
+ghost use Rattle.squeeze_top.specs.Jobs.{Give, Served, AreRefused, IsAnswer};
+ghost use Rattle.squeeze_top.specs.Lines.{WroteLine, WroteBound, WroteWhatHolds, exact_lines, nothing_line};
+ghost use Rattle.squeeze_top.specs.Written.{Wrote, WroteNoJob};
 
-use crate::answer::{Answer, answer_of, case_answer};
-use front_end::{Halt, Source, Status, front_end, put_lines, refuse};
+use crate::plain::plain_mode;
+use crate::squeeze::squeeze_mode;
+use front_end::Status;
 use std::alloc::Global;
 use std::sync::Wait;
 use std::thread::Threads;
 use wc_outside::{Gate, Shelf, Sink, put_all};
-use word_line::{Job, Mode, Name, WordFault, one_job, words as job_of};
-
-// Where the texts of a job come from, this being its file.
-fn source_of<'a>(job: &'a Job, file: &'a Name) -> Source<'a>
-    ensures { files.source_of result ≡ source job.now file.now }
-{
-    let table = match &job.costs {
-        Some(name) => Some(name.as_str()),
-        None => None,
-    };
-    let input = match job.mode {
-        Mode::Run => Some(job.input.as_str()),
-        _ => None,
-    };
-    Source {
-        file: file.as_str(),
-        entry: job.entry.as_str(),
-        input,
-        table,
-    }
-}
-
-// The answer to a job.
-fn answer_to<S: Shelf>(alloc: Global, job: &Job, shelf: &mut S) -> Result<Answer, Halt>
-    requires { IsJob job.now }
-    ensures answered { IfOk result (λ a. IsAnswer job.now (S.contents shelf.old) a.status a.text.items) }
-    ensures whole { IfOk result (λ a. a.status ≡ Status.Whole) }
-    ensures halted { IfErr result (λ halt. IsHalt halt job.now (S.contents shelf.old)) }
-    ensures counts { Counts result (S.faults shelf.old) (S.faults shelf.new) }
-    ensures same { S.contents shelf.new ≡ S.contents shelf.old }
-{
-    match &job.file {
-        Some(file) => {
-            let front = front_end(alloc, shelf, &source_of(job, file))?;
-            Ok(answer_of(alloc, job, &front)?)
-        }
-        None => Ok(case_answer(alloc, job)?),
-    }
-}
-
-// Writes an answer, and tells how the tool ends: as the answer says, where it is written whole.
-fn tell<K: Sink>(out: &mut K, answer: &Answer) -> Status
-    requires { answer.now.status ≡ Status.Whole }
-    ensures told { result ≡ Status.Whole → Grew (K.written out.old) (K.written out.new) answer.now.text.items }
-    ensures part { result ≡ Status.WriteFault
-        → GrewByPrefix (K.written out.old) (K.written out.new) answer.now.text.items }
-    ensures write_fault { result ≡ Status.WriteFault → Rose (K.faults out.old) (K.faults out.new) }
-    ensures no_write_fault { result ≢ Status.WriteFault → K.faults out.new ≡ K.faults out.old }
-    ensures later { K.faults out.old ≤ K.faults out.new }
-    ensures only { result ≡ Status.Whole ⊎ result ≡ Status.WriteFault }
-{
-    match put_lines(out, &answer.text) {
-        Ok(()) => answer.status,
-        Err(_) => Status::WriteFault,
-    }
-}
+use word_line::{Job, Mode, WordFault, one_job, words as job_of};
 
 // Tells that the words ask for no job.
 fn refuse_words<K: Sink>(out: &mut K) -> Status
@@ -95,78 +44,34 @@ fn refuse_words<K: Sink>(out: &mut K) -> Status
     }
 }
 
-/// Does a job that needs no workers: reads the files that it names, and writes the answer, or the line of the first
-/// refusal. It takes no lock, and returns.
-///
-/// The modes are `bound`, which writes the optimum of implicit path enumeration (Li and Malik), which no run exceeds;
-/// `ipet`, which writes how many block copies there are and the optimum; `blocks`, which writes each block with its
-/// cost; `run`, which writes how the run on the input ends; `print`, which writes the program; and `make`, which reads no
-/// file and writes the program of a made case, or its table. Without a table each block costs 1.
-///
-/// The order of work, and so of refusals, is: the program's bytes and their size; its tokens; its unit; its names,
-/// kinds and bounds; the input of a run; the table's bytes and their size; the table's costs; the limits of the flat
-/// graph; and a fault of the sink. A fault of the shelf stands where its file is read. Want of memory may come before
-/// any of them. The clauses that speak of texts hold where the shelf tells its contents.
-pub fn plain_mode<S: Shelf, K: Sink>(alloc: Global, job: &Job, shelf: &mut S, out: &mut K) -> Status
-    // The job is one that words ask for: its mode is built.
+// Does a job.
+fn do_job<S: Shelf, K: Sink>(alloc: Global, job: &Job, shelf: &mut S, out: &mut K) -> Status
     requires { IsJob job.now }
-
-    // What each status says of what was written; before want of memory and at a fault of the shelf that is nothing. No
-    // mode of today ends inexact.
     ensures wrote { Wrote result job.now (S.contents shelf.old) (K.written out.old) (K.written out.new) }
-    ensures memory { result ≡ Status.NoMemory → K.written out.new ≡ K.written out.old }
-    ensures unread { result ≡ Status.ReadFault → K.written out.new ≡ K.written out.old }
-    ensures exact { result ≢ Status.Inexact }
-
-    // A fault of the shelf or the sink is told only where its count rose, and none is passed over.
+    ensures memory { IsTrue (is_plain job.now.mode) → result ≡ Status.NoMemory → K.written out.new ≡ K.written out.old }
+    ensures whole { IsTrue (is_plain job.now.mode) → result ≢ Status.Inexact }
     ensures read_fault { result ≡ Status.ReadFault → Rose (S.faults shelf.old) (S.faults shelf.new) }
     ensures write_fault { result ≡ Status.WriteFault → Rose (K.faults out.old) (K.faults out.new) }
     ensures no_read_fault { result ≢ Status.ReadFault → S.faults shelf.new ≡ S.faults shelf.old }
     ensures no_write_fault { result ≢ Status.WriteFault → K.faults out.new ≡ K.faults out.old }
-
-    // Each line with a bound N that was written whole, at whatever status, is above every run of every program and
-    // costs that the texts give.
-    ensures bounds { (n : ℕ) (p : Tree) (t : Table) → IsSome (S.contents shelf.old) → n < 2 ^ 128
-        → WroteBound job.now.mode n (K.written out.old) (K.written out.new)
-        → Give job.now (S.contents shelf.old) p t → Above p t n }
-
-    // There is one answer.
-    ensures one_answer { (s u : Status) (a b : List ℕ) → IsSome (S.contents shelf.old)
-        → IsAnswer job.now (S.contents shelf.old) s a → IsAnswer job.now (S.contents shelf.old) u b
-        → (s ≡ u) × (a ≡ b) }
-
-    // It is given, where nothing fails outside and memory serves.
-    ensures answered { (s : Status) (text : List ℕ) → IsSome (S.contents shelf.old)
-        → IsAnswer job.now (S.contents shelf.old) s text
-        → ¬ (Rose (S.faults shelf.old) (S.faults shelf.new)) → ¬ (Rose (K.faults out.old) (K.faults out.new))
-        → ((result ≡ s) × Grew (K.written out.old) (K.written out.new) text) ⊎ result ≡ Status.NoMemory }
-
-    // Texts that are accepted are answered, where nothing fails outside and memory serves.
-    ensures complete { IsSome (S.contents shelf.old) → Served job.now (S.contents shelf.old)
-        → ¬ (Rose (S.faults shelf.old) (S.faults shelf.new)) → ¬ (Rose (K.faults out.old) (K.faults out.new))
-        → result ≡ Status.Whole ⊎ result ≡ Status.NoMemory }
-
-    // Where texts are refused, so is the job, with the status of the refusal.
-    ensures refused { (refusal : Refusal) → IsSome (S.contents shelf.old)
-        → AreRefused job.now (S.contents shelf.old) refusal
-        → ¬ (Rose (S.faults shelf.old) (S.faults shelf.new)) → ¬ (Rose (K.faults out.old) (K.faults out.new))
-        → result ≡ status_of refusal ⊎ result ≡ Status.NoMemory }
-
     ensures shelf_later { S.faults shelf.old ≤ S.faults shelf.new }
     ensures sink_later { K.faults out.old ≤ K.faults out.new }
     ensures same { S.contents shelf.new ≡ S.contents shelf.old }
 {
-    match answer_to(alloc, job, shelf) {
-        Ok(answer) => tell(out, &answer),
-        Err(Halt::Refused(refusal)) => refuse(alloc, out, &refusal),
-        Err(Halt::ReadFault) => Status::ReadFault,
-        Err(Halt::NoMemory) => Status::NoMemory,
+    match job.mode {
+        Mode::Squeeze => squeeze_mode(alloc, job, shelf, out),
+        _ => plain_mode(alloc, job, shelf, out),
     }
 }
 
-/// Does all that the program does: reads the words, and does the job that they ask for, as `plain_mode` does; or writes
-/// that they are refused, where they ask for none. Want of memory may come before that. `rt` and `gate` are for modes
-/// with workers, of which there is none today; so this call owes no return by its contract.
+/// Does all that the program does: reads the words, and does the job that they ask for, as `plain_mode` does, or by the
+/// mode `squeeze`; or writes that they are refused, where they ask for none. Want of memory may come before that. `rt`
+/// and `gate` are for several workers, of which there is one today; so this call owes no return by its contract.
+///
+/// `squeeze` finds the dearest run of the program, as far as the limits of turns and conflicts go (WCET Squeezing, Knoop
+/// et al.), and writes a report: `blocks N` and `ipet N`, before the race; and then `exact N` and the line of the input
+/// whose run costs N, which no run exceeds; or `none` where no run ends; or `inexact N`, the best cost that was found,
+/// and what was spent, where a limit ended the race. It ends whole in the first two cases, and else inexact.
 ///
 /// The words are read by `clap` (`word_line`): the mode, its file where it takes one, options and flags. The entry is
 /// `main` where none is named, and the input is empty where none is given.
@@ -184,15 +89,16 @@ pub fn wcet_main<R: Threads + Wait + Sync, S: Shelf, K: Sink, G: Gate + Sync>(
     ensures one_job { (a b : Job) → AskFor (map (λ w. w.now) words.now) a
         → AskFor (map (λ w. w.now) words.now) b → a ≡ b }
 
-    // What each status says of what was written; before want of memory and at a fault of the shelf that is nothing. No
-    // mode of today ends inexact.
+    // What each status says of what was written. Of a job that needs no workers nothing is written before want of
+    // memory, and it does not end inexact.
     ensures wrote { (job : Job) → AskFor (map (λ w. w.now) words.now) job
         → Wrote result job (S.contents shelf.old) (K.written out.old) (K.written out.new) }
     ensures no_job { ((job : Job) → ¬ (AskFor (map (λ w. w.now) words.now) job))
         → WroteNoJob result (K.written out.old) (K.written out.new) }
-    ensures memory { result ≡ Status.NoMemory → K.written out.new ≡ K.written out.old }
-    ensures unread { result ≡ Status.ReadFault → K.written out.new ≡ K.written out.old }
-    ensures exact { result ≢ Status.Inexact }
+    ensures memory { (job : Job) → AskFor (map (λ w. w.now) words.now) job → IsTrue (is_plain job.mode)
+        → result ≡ Status.NoMemory → K.written out.new ≡ K.written out.old }
+    ensures whole { (job : Job) → AskFor (map (λ w. w.now) words.now) job → IsTrue (is_plain job.mode)
+        → result ≢ Status.Inexact }
 
     // A fault of the shelf or the sink is told only where its count rose, and none is passed over.
     ensures read_fault { result ≡ Status.ReadFault → Rose (S.faults shelf.old) (S.faults shelf.new) }
@@ -207,13 +113,47 @@ pub fn wcet_main<R: Threads + Wait + Sync, S: Shelf, K: Sink, G: Gate + Sync>(
         → WroteBound job.mode n (K.written out.old) (K.written out.new)
         → Give job (S.contents shelf.old) p t → Above p t n }
 
-    // There is one answer.
-    ensures one_answer { (job : Job) (s u : Status) (a b : List ℕ) → IsSome (S.contents shelf.old)
+    // Where `squeeze` has written the lines of an exact bound N and of an input whole, at whatever status, the input is
+    // the text of one whose run costs N, which no run exceeds. Where it has written that there is none, no run ends.
+    ensures exact { (job : Job) (n : ℕ) (input : List ℕ) (p : Tree) (t : Table)
+        → AskFor (map (λ w. w.now) words.now) job → job.mode ≡ Mode.Squeeze
+        → IsSome (S.contents shelf.old) → n < 2 ^ 128 → HasNoFeed input
+        → WroteLine (K.written out.old) (K.written out.new) (exact_lines n input)
+        → Give job (S.contents shelf.old) p t → (i : Input) × HasText p input i × Tight p t i n }
+    ensures none { (job : Job) (p : Tree) (t : Table)
+        → AskFor (map (λ w. w.now) words.now) job → job.mode ≡ Mode.Squeeze
+        → IsSome (S.contents shelf.old) → WroteLine (K.written out.old) (K.written out.new) nothing_line
+        → Give job (S.contents shelf.old) p t → NoRun p }
+
+    // All that it has written, at whatever status, are lines whose claims hold; or the last of them is cut off. Their
+    // bounds never rise, and the costs that they tell to be found never fall.
+    ensures holds { (job : Job) (p : Tree) (t : Table)
+        → AskFor (map (λ w. w.now) words.now) job → job.mode ≡ Mode.Squeeze
+        → IsSome (S.contents shelf.old) → Give job (S.contents shelf.old) p t
+        → WroteWhatHolds p t (K.written out.old) (K.written out.new) }
+
+    // Where it ends whole, it has written the exact bound and its input if some run ends, and else that there is none.
+    ensures found { (job : Job) (n : ℕ) (p : Tree) (t : Table)
+        → AskFor (map (λ w. w.now) words.now) job → job.mode ≡ Mode.Squeeze
+        → IsSome (S.contents shelf.old) → IsSome (K.written out.old) → Give job (S.contents shelf.old) p t
+        → result ≡ Status.Whole → IsReached p t n
+        → (bound : ℕ) × (input : List ℕ)
+        × WroteLine (K.written out.old) (K.written out.new) (exact_lines bound input) }
+    ensures found_none { (job : Job) (p : Tree) (t : Table)
+        → AskFor (map (λ w. w.now) words.now) job → job.mode ≡ Mode.Squeeze
+        → IsSome (S.contents shelf.old) → IsSome (K.written out.old) → Give job (S.contents shelf.old) p t
+        → result ≡ Status.Whole → NoRun p
+        → WroteLine (K.written out.old) (K.written out.new) nothing_line }
+
+    // There is one answer to a job that needs no workers.
+    ensures one_answer { (job : Job) (s u : Status) (a b : List ℕ) → IsTrue (is_plain job.mode)
+        → IsSome (S.contents shelf.old)
         → IsAnswer job (S.contents shelf.old) s a → IsAnswer job (S.contents shelf.old) u b
         → (s ≡ u) × (a ≡ b) }
 
     // It is given, where nothing fails outside and memory serves.
     ensures answered { (job : Job) (s : Status) (text : List ℕ) → AskFor (map (λ w. w.now) words.now) job
+        → IsTrue (is_plain job.mode)
         → IsSome (S.contents shelf.old) → IsAnswer job (S.contents shelf.old) s text
         → ¬ (Rose (S.faults shelf.old) (S.faults shelf.new)) → ¬ (Rose (K.faults out.old) (K.faults out.new))
         → ((result ≡ s) × Grew (K.written out.old) (K.written out.new) text) ⊎ result ≡ Status.NoMemory }
@@ -222,7 +162,7 @@ pub fn wcet_main<R: Threads + Wait + Sync, S: Shelf, K: Sink, G: Gate + Sync>(
     ensures complete { (job : Job) → AskFor (map (λ w. w.now) words.now) job
         → IsSome (S.contents shelf.old) → Served job (S.contents shelf.old)
         → ¬ (Rose (S.faults shelf.old) (S.faults shelf.new)) → ¬ (Rose (K.faults out.old) (K.faults out.new))
-        → result ≡ Status.Whole ⊎ result ≡ Status.NoMemory }
+        → result ≡ Status.Whole ⊎ (result ≡ Status.Inexact ⊎ result ≡ Status.NoMemory) }
 
     // Where texts are refused, so is the job, with the status of the refusal; where there is no job, so are the words.
     ensures refused { (job : Job) (refusal : Refusal) → AskFor (map (λ w. w.now) words.now) job
@@ -239,7 +179,7 @@ pub fn wcet_main<R: Threads + Wait + Sync, S: Shelf, K: Sink, G: Gate + Sync>(
 {
     one_job();
     match job_of(alloc, words) {
-        Ok(job) => plain_mode(alloc, &job, shelf, out),
+        Ok(job) => do_job(alloc, &job, shelf, out),
         Err(WordFault::Refused) => refuse_words(out),
         Err(WordFault::NoMemory) => Status::NoMemory,
     }

@@ -5,7 +5,7 @@ use Rattle.word_line.specs.declared.job.Mode.TheVariants.{Squeeze, Bound, Ipet, 
 use Rattle.word_line.specs.declared.job.Job.{Job}
 
 abbrev pub is_built : Mode → Bool
-is_built Squeeze = false
+is_built Squeeze = true
 is_built Bound = true
 is_built Ipet = true
 is_built Blocks = true
@@ -19,6 +19,12 @@ abbrev pub has_file : Mode → Bool
 has_file Make = false
 has_file Workout = false
 has_file _ = true
+
+-- the modes that need no workers
+abbrev pub is_plain : Mode → Bool
+is_plain Squeeze = false
+is_plain Workout = false
+is_plain _ = true
 
 -- the numbers lie within their limits
 pub record IsWithinLimits (job : Job) : Type 0 where

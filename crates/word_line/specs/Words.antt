@@ -23,7 +23,7 @@ use Rattle.clap.specs.Walk.{Row, first_of}
 use Rattle.clap.specs.Simple.{matches_of}
 use Rattle.clap.specs.Faults.{fault_of}
 use Rattle.word_line.specs.declared.job.Mode.{Mode}
-use Rattle.word_line.specs.declared.job.Mode.TheVariants.{Bound, Ipet, Blocks, Run, Print, Make}
+use Rattle.word_line.specs.declared.job.Mode.TheVariants.{Squeeze, Bound, Ipet, Blocks, Run, Print, Make}
 use Rattle.word_line.specs.declared.job.Job.{Job}
 use Rattle.word_line.specs.Command.{command}
 use Rattle.word_line.specs.Jobs.{has_file}
@@ -31,7 +31,8 @@ use Rattle.word_line.specs.Jobs.{has_file}
 -- the modes that are built
 abbrev pub mode_of : List ℕ → Option Mode
 mode_of word =
-    if bytes_eq word (codes "bound") then Some Bound
+    if bytes_eq word (codes "squeeze") then Some Squeeze
+    else if bytes_eq word (codes "bound") then Some Bound
     else if bytes_eq word (codes "ipet") then Some Ipet
     else if bytes_eq word (codes "blocks") then Some Blocks
     else if bytes_eq word (codes "run") then Some Run

@@ -177,6 +177,7 @@ fn mode_of(word: &str) -> Option<Mode>
     ensures built { IfSome result (λ mode. IsTrue (is_built mode)) }
 {
     match word {
+        "squeeze" => Some(Mode::Squeeze),
         "bound" => Some(Mode::Bound),
         "ipet" => Some(Mode::Ipet),
         "blocks" => Some(Mode::Blocks),

@@ -5,7 +5,7 @@ use crate::Name;
 /// What is to be done.
 #[derive(Clone, Copy, Debug, PartialEq, Eq)]
 pub enum Mode {
-    /// Find the dearest run. It is not built.
+    /// Find the dearest run.
     Squeeze,
     /// Bound the program of the file.
     Bound,

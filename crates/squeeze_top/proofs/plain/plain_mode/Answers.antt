@@ -10,7 +10,7 @@ use Rattle.squeeze_top.specs.Jobs.{IsHalt}
 use Rattle.squeeze_top.proofs.Agreeing.{one_answer, answered_whole, answered_stands, served_stands, one_status}
 use Rattle.squeeze_top.proofs.Bounds.{bound_holds}
 use Rattle.squeeze_top.proofs.Written.{wrote_answer, wrote_refusal, wrote_nothing, given, refused}
-use Rattle.squeeze_top.proofs.top.plain_mode.Goals as goal
+use Rattle.squeeze_top.proofs.plain.plain_mode.Goals as goal
 
 -- ---- an answer
 
@@ -28,7 +28,7 @@ returns-in-Ok-clause-bounds g c =
     (returns-in-Ok-clause-wrote g c) b give
 
 pub returns-in-Ok-clause-one_answer : goal.returns-in-Ok-clause-one_answer
-returns-in-Ok-clause-one_answer g c = one_answer c.args.job.now (g.S.Shelf.contents c.args.shelf.now)
+returns-in-Ok-clause-one_answer g c = λ s u a b some. one_answer c.args.job.now (g.S.Shelf.contents c.args.shelf.now) s u a b some c.requires.plain
 
 pub returns-in-Ok-clause-answered : goal.returns-in-Ok-clause-answered
 returns-in-Ok-clause-answered g c =
@@ -37,9 +37,9 @@ returns-in-Ok-clause-answered g c =
     let old = g.K.Sink.written c.args.out.now in
     let new = g.K.Sink.written c.tell.new.out in
     let same = one_answer c.args.job.now told c.in-Ok.answer.status s c.in-Ok.answer.text.items text some
-    c.in-Ok.ensures.answered answer in
+    c.requires.plain c.in-Ok.ensures.answered answer in
     subst (λ v. ((c.tell.result ≡ v) × Grew old new text) ⊎ (c.tell.result ≡ status.NoMemory))
-    (sym (answered_whole c.args.job.now told s text answer))
+    (sym (answered_whole c.args.job.now told s text c.requires.plain answer))
     (given c.tell.result (Grew old new text) c.tell.ensures.only
     (λ e. unwritten (c.tell.ensures.write_fault e))
     (λ e. subst (λ x. Grew old new x) same.1 (c.tell.ensures.told e)))
@@ -69,7 +69,7 @@ returns-in-Err-Refused-clause-bounds g c =
     (returns-in-Err-Refused-clause-wrote g c) b give
 
 pub returns-in-Err-Refused-clause-one_answer : goal.returns-in-Err-Refused-clause-one_answer
-returns-in-Err-Refused-clause-one_answer g c = one_answer c.args.job.now (g.S.Shelf.contents c.args.shelf.now)
+returns-in-Err-Refused-clause-one_answer g c = λ s u a b some. one_answer c.args.job.now (g.S.Shelf.contents c.args.shelf.now) s u a b some c.requires.plain
 
 pub returns-in-Err-Refused-clause-answered : goal.returns-in-Err-Refused-clause-answered
 returns-in-Err-Refused-clause-answered g c =
@@ -107,7 +107,7 @@ returns-in-Err-ReadFault-clause-bounds g c =
     (g.K.Sink.written c.args.out.now) (g.K.Sink.written c.args.out.now) n p t some small refl b give
 
 pub returns-in-Err-ReadFault-clause-one_answer : goal.returns-in-Err-ReadFault-clause-one_answer
-returns-in-Err-ReadFault-clause-one_answer g c = one_answer c.args.job.now (g.S.Shelf.contents c.args.shelf.now)
+returns-in-Err-ReadFault-clause-one_answer g c = λ s u a b some. one_answer c.args.job.now (g.S.Shelf.contents c.args.shelf.now) s u a b some c.requires.plain
 
 pub returns-in-Err-NoMemory-clause-bounds : goal.returns-in-Err-NoMemory-clause-bounds
 returns-in-Err-NoMemory-clause-bounds g c =
@@ -118,4 +118,4 @@ returns-in-Err-NoMemory-clause-bounds g c =
     (wrote_nothing c.args.job.now told old old refl) b give
 
 pub returns-in-Err-NoMemory-clause-one_answer : goal.returns-in-Err-NoMemory-clause-one_answer
-returns-in-Err-NoMemory-clause-one_answer g c = one_answer c.args.job.now (g.S.Shelf.contents c.args.shelf.now)
+returns-in-Err-NoMemory-clause-one_answer g c = λ s u a b some. one_answer c.args.job.now (g.S.Shelf.contents c.args.shelf.now) s u a b some c.requires.plain

@@ -1,0 +1,4 @@
+pub mod Untaken
+pub mod Ended
+pub mod Written
+pub mod Racing
